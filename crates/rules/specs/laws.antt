@@ -1,0 +1,4 @@
+-- Laws of the definitions: what a proof may use of them.
+pub mod Tests
+pub mod All
+pub mod Lists

@@ -1,0 +1,88 @@
+-- What holds of every element of a list, and the tests that ask for it.
+use Prim.Native.Nat.{ℕ, zero, suc, _≤_, _<_, _+_}
+use native.Mathlib.Omega.{arith}
+use mathlib.Core.Path.{_≡_, refl, sym, ap, ap₂}
+use mathlib.Core.Bool.{Bool, true, false, _&&_}
+use mathlib.Core.List.{List, [], _∷_, _++_, map, flatMap}
+use lib.ListN.{length, replicate}
+use Rattle.rules.specs.Lists.{every, keep, put-if}
+use Rattle.rules.specs.laws.Tests.{and-left, and-right, and-both}
+
+pub data All {A : Type 0} (P : A → Type 0) : List A → Type 0 where
+  none : All P []
+  more : {x : A} {xs : List A} → P x → All P xs → All P (x ∷ xs)
+
+pub head-of : {A : Type 0} {P : A → Type 0} {x : A} {xs : List A} → All P (x ∷ xs) → P x
+head-of (more h a) = h
+
+pub tail-of : {A : Type 0} {P : A → Type 0} {x : A} {xs : List A} → All P (x ∷ xs) → All P xs
+tail-of (more h a) = a
+
+pub all-map : {A : Type 0} {P Q : A → Type 0} {xs : List A} → All P xs → ((x : A) → P x → Q x) → All Q xs
+all-map none f = none
+all-map (more {x = x} h a) f = more (f x h) (all-map a f)
+
+pub all-zip : {A : Type 0} {P Q R : A → Type 0} {xs : List A} → All P xs → All Q xs → ((x : A) → P x → Q x → R x) → All R xs
+all-zip none none f = none
+all-zip (more {x = x} h a) (more k b) f = more (f x h k) (all-zip a b f)
+
+-- ---- as a test
+pub every-all : {A : Type 0} (f : A → Bool) (xs : List A) → every f xs ≡ true → All (λ x. f x ≡ true) xs
+unfolding every
+every-all f [] e = none
+every-all f (x ∷ xs) e = more (and-left (f x) (every f xs) e) (every-all f xs (and-right (f x) (every f xs) e))
+
+pub all-every : {A : Type 0} (f : A → Bool) {xs : List A} → All (λ x. f x ≡ true) xs → every f xs ≡ true
+unfolding every
+all-every f none = refl
+all-every f (more h a) = and-both h (all-every f a)
+
+-- ---- in lists that are made of others
+pub all-append : {A : Type 0} {P : A → Type 0} {a b : List A} → All P a → All P b → All P (a ++ b)
+all-append none k = k
+all-append (more h t) k = more h (all-append t k)
+
+pub all-front : {A : Type 0} {P : A → Type 0} (xs ys : List A) → All P (xs ++ ys) → All P xs
+all-front [] ys a = none
+all-front (x ∷ xs) ys (more h a) = more h (all-front xs ys a)
+
+pub all-back : {A : Type 0} {P : A → Type 0} (xs ys : List A) → All P (xs ++ ys) → All P ys
+all-back [] ys a = a
+all-back (x ∷ xs) ys (more h a) = all-back xs ys a
+
+pub all-flat : {A B : Type 0} {P : B → Type 0} (f : A → List B) (xs : List A) → All P (flatMap f xs) → All (λ x. All P (f x)) xs
+unfolding flatMap
+all-flat f [] a = none
+all-flat f (x ∷ xs) a = more (all-front (f x) _ a) (all-flat f xs (all-back (f x) _ a))
+
+pub flat-all : {A B : Type 0} {P : B → Type 0} (f : A → List B) {xs : List A} → All (λ x. All P (f x)) xs → All P (flatMap f xs)
+unfolding flatMap
+flat-all f none = none
+flat-all f (more h a) = all-append h (flat-all f a)
+
+pub all-mapped : {A B : Type 0} {P : B → Type 0} (g : A → B) {xs : List A} → All (λ x. P (g x)) xs → All P (map g xs)
+all-mapped g none = none
+all-mapped g (more h a) = more h (all-mapped g a)
+
+pub all-kept : {A : Type 0} {P : A → Type 0} (f : A → Bool) {xs : List A} → All (λ x. f x ≡ true → P x) xs → All P (keep f xs)
+unfolding keep
+all-kept f none = none
+all-kept {P = P} f (more {x = x} {xs = xs} h a) = go (f x) refl (all-kept f a)
+  where
+    go : (b : Bool) → f x ≡ b → All P (keep f xs) → All P (put-if b x (keep f xs))
+    go true e r = more (h e) r
+    go false e r = r
+
+pub all-replicate : {A : Type 0} {P : A → Type 0} (n : ℕ) (x : A) → P x → All P (replicate n x)
+all-replicate zero x h = none
+all-replicate (suc n) x h = more h (all-replicate n x h)
+
+-- ---- where all agree
+pub flat-cong : {A B : Type 0} (f g : A → List B) {xs : List A} → All (λ x. f x ≡ g x) xs → flatMap f xs ≡ flatMap g xs
+unfolding flatMap
+flat-cong f g none = refl
+flat-cong f g (more h a) = rw (h, flat-cong f g a)
+
+pub map-back : {A B : Type 0} (f : B → A) (g : A → B) {xs : List A} → All (λ x. f (g x) ≡ x) xs → map f (map g xs) ≡ xs
+map-back f g none = refl
+map-back f g (more h a) = ap₂ (λ u v. u ∷ v) h (map-back f g a)
