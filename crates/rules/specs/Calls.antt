@@ -5,14 +5,17 @@ use mathlib.Core.List.{List, [], _∷_, _++_, map, flatMap}
 use lib.Dec.{eqb, leb, ltb}
 use lib.ListN.{length, getD, take, drop}
 use Rattle.rules.specs.declared.Window.{Window}
-use Rattle.rules.specs.Lists.{all-of, every, cut}
-use Rattle.rules.specs.Boxes.{proper-window}
-use Rattle.rules.specs.Store.{Store, memo-start, boards-start, store-length, board-at, row-words, words, store-of, fresh}
-use Rattle.rules.specs.Live.{rows-in}
-use Rattle.rules.specs.Sound.{sizes-in-range, sound-words}
-use Rattle.rules.specs.Boards.{is-open}
-use Rattle.rules.specs.Numbers.{Refusal, _when_, first-met}
-use Rattle.rules.specs.Steps.{step-of, run}
+use Rattle.rules.specs.Lists.{all-of, every, cut, lists-open}
+use Rattle.rules.specs.Boxes.{proper-window, boxes-open}
+use Rattle.rules.specs.Store.{Store, memo-start, boards-start, store-length, board-at, row-words, words, store-of, fresh, store-open}
+use Rattle.rules.specs.Memo.{memo-open}
+use Rattle.rules.specs.Live.{rows-in, live-open}
+use Rattle.rules.specs.Tree.{tree-open}
+use Rattle.rules.specs.Cleaning.{cleaning-open}
+use Rattle.rules.specs.Sound.{sizes-in-range, sound-words, sound-open}
+use Rattle.rules.specs.Boards.{is-open, boards-open}
+use Rattle.rules.specs.Numbers.{Refusal, _when_, first-met, numbers-open}
+use Rattle.rules.specs.Steps.{step-of, run, steps-open}
 
 -- ---- the tests of a lent store, the same for each call but start
 unfoldable pub sizes-read : List ℕ → Bool
@@ -111,3 +114,8 @@ board-rows w i = rows-by (board-test w i) w i
 unfoldable pub calls-open : Unit {0}
 unfolding sizes-read laid-out store-tests start-number started-by start run-number ran-by run-call query-number queried-by query-call board-test rows-by board-rows
 calls-open = tt
+
+-- and one that says `unfolding rules-open` through every definition of all the files up to here
+unfoldable pub rules-open : Unit {0}
+unfolding lists-open boxes-open store-open memo-open live-open tree-open cleaning-open boards-open sound-open numbers-open steps-open calls-open
+rules-open = tt

@@ -12,3 +12,5 @@ pub mod Numbers
 pub mod Steps
 pub mod Calls
 pub mod laws
+pub mod Text
+pub mod Examples
