@@ -132,10 +132,14 @@ header-words s =
     ∷ length (s .boards)
     ∷ [])
 
+-- the memo's part, with room for k slots
+abbrev pub memo-words : ℕ → List Slot → List ℕ
+memo-words k memo = padded (3 * k) (flatMap slot-words memo)
+
 unfoldable pub words : Store → List ℕ
 words s =
     header-words s
-    ++ (flatMap page-words (s .pages) ++ (padded (3 * s .slots) (flatMap slot-words (s .memo)) ++ flatMap board-words (s .boards)))
+    ++ (flatMap page-words (s .pages) ++ (memo-words (s .slots) (s .memo) ++ flatMap board-words (s .boards)))
 
 -- ---- read from words; counts that a damaged store makes too large are read as the most there is room for
 unfoldable pub box-of : List ℕ → Box
@@ -165,6 +169,16 @@ unfoldable pub used : List Slot → List Slot
 used [] = []
 used (m ∷ ms) = let rest = used ms in cond (eqb (m .train .0) 0) [] (m ∷ rest)
 
+-- p pages, k slots and b boards from the start of these words
+abbrev pub pages-of : ℕ → List ℕ → List Page
+pages-of p w = map page-of (cut p 52 w)
+
+abbrev pub slots-of : ℕ → List ℕ → List Slot
+slots-of k w = used (map slot-of (cut k 3 w))
+
+abbrev pub boards-of : ℕ → List ℕ → List Board
+boards-of b w = map board-of (cut b 86 w)
+
 unfoldable pub store-of : List ℕ → Store
 store-of w =
     let p = getD w 5 0 in
@@ -174,9 +188,9 @@ store-of w =
       root = page-no (getD w 2 0);
       levels = getD w 3 0;
       slots = k;
-      pages = map page-of (cut p 52 (drop 16 w));
-      memo = used (map slot-of (cut k 3 (drop (memo-start p) w)));
-      boards = map board-of (cut (getD w 9 0) 86 (drop (boards-start p k) w));
+      pages = pages-of p (drop 16 w);
+      memo = slots-of k (drop (memo-start p) w);
+      boards = boards-of (getD w 9 0) (drop (boards-start p k) w);
     }
 
 -- ---- the fresh store: page 0 is an empty root leaf with mark 1, one level, next stamp 1, nothing else
