@@ -3,16 +3,20 @@
 use Prim.Native.Nat.{ℕ, _<_, _≤_}
 use native.Mathlib.Omega.{arith}
 use mathlib.Core.Path.{_≡_, refl, sym, _∙_, ap, ap₂, fun-ext}
-use mathlib.Core.Bool.{Bool, true, false, not, cond, _&&_, and-comm}
+use mathlib.Core.Bool.{Bool, true, false, not, cond, _&&_, _||_, and-comm, or-true, true≢false}
 use mathlib.Core.List.{List, [], _∷_, map, List·Memᴰ, List·Memᴰ·head, List·Memᴰ·tail, List·Memᴰ·not-nil, Memᴰ·cast}
+use mathlib.Core.List.{List·Permᴰ, List·Permᴰ·nil, List·Permᴰ·cons, List·Permᴰ·swap, List·Permᴰ·trans, Permᴰ·symm}
 use lib.Dec.{eqb, ltb}
-use borrow.Author.Tests.{ltb-true, ltb-false, eqb-true, eqb-false, eq-eqb, ne-eqb}
+use borrow.Author.Tests.{ltb-true, ltb-false, eqb-true, eqb-false, eq-eqb, ne-eqb, not-true}
 use Rattle.rules.specs.declared.Train.{Train}
 use Rattle.rules.specs.declared.Entry.{Entry}
 use Rattle.rules.specs.declared.Row.{Row}
-use Rattle.rules.specs.Lists.{keep, put-if}
-use Rattle.rules.specs.Store.{train-of}
+use Rattle.rules.specs.Lists.{keep, put-if, some-one}
+use Rattle.rules.specs.Boxes.{meets}
+use Rattle.rules.specs.Store.{Board, train-of}
 use Rattle.rules.specs.Live.{row-inserted, row-removed, row-for, rows-of}
+use Rattle.rules.specs.Boards.{is-open, lists, with-rows, told, untold}
+use Rattle.rules.specs.laws.Tests.{either}
 use Rattle.rules.specs.laws.All.{All, none, more, head-of, tail-of, all-map, all-kept}
 use Rattle.rules.specs.laws.Lists.{Distinct, d-none, d-more}
 
@@ -31,6 +35,28 @@ all-members (x ∷ xs) h = more (h x (List·Memᴰ·head refl)) (all-members xs 
 pub all-unmapped : {A B : Type 0} {P : B → Type 0} (g : A → B) (xs : List A) → All P (map g xs) → All (λ x. P (g x)) xs
 all-unmapped g [] a = none
 all-unmapped g (x ∷ xs) a = more (head-of a) (all-unmapped g xs (tail-of a))
+
+-- ---- a list in another order
+pub all-reordered : {A : Type 0} {P : A → Type 0} {xs ys : List A} → List·Permᴰ xs ys → All P xs → All P ys
+all-reordered List·Permᴰ·nil a = a
+all-reordered (List·Permᴰ·cons e p) (more h a) = more (rw e at h) (all-reordered p a)
+all-reordered (List·Permᴰ·swap e f) (more h (more k a)) = more (rw f at k) (more (rw e at h) a)
+all-reordered (List·Permᴰ·trans p q) a = all-reordered q (all-reordered p a)
+
+pub mem-reordered : {A : Type 0} {x : A} {xs ys : List A} → List·Permᴰ xs ys → Mem x xs → Mem x ys
+mem-reordered {ys = ys} p m = all-at (all-reordered (Permᴰ·symm p) (all-members ys λ y n. n)) m
+
+pub map-reordered : {A B : Type 0} (g : A → B) {xs ys : List A} → List·Permᴰ xs ys → List·Permᴰ (map g xs) (map g ys)
+map-reordered g List·Permᴰ·nil = List·Permᴰ·nil
+map-reordered g (List·Permᴰ·cons e p) = List·Permᴰ·cons (ap g e) (map-reordered g p)
+map-reordered g (List·Permᴰ·swap e f) = List·Permᴰ·swap (ap g e) (ap g f)
+map-reordered g (List·Permᴰ·trans p q) = List·Permᴰ·trans (map-reordered g p) (map-reordered g q)
+
+pub distinct-reordered : {xs ys : List ℕ} → List·Permᴰ xs ys → Distinct xs → Distinct ys
+distinct-reordered List·Permᴰ·nil d = d
+distinct-reordered (List·Permᴰ·cons e p) (d-more h d) = rw (← e) (d-more (all-reordered p h) (distinct-reordered p d))
+distinct-reordered (List·Permᴰ·swap e f) (d-more (more n h) (d-more k d)) = rw (← e, ← f) (d-more (more (λ q. n (sym q)) k) (d-more h d))
+distinct-reordered (List·Permᴰ·trans p q) d = distinct-reordered q (distinct-reordered p d)
 
 -- ---- the kept ones of any list
 pub keep-yes : {A : Type 0} (f : A → Bool) (x : A) (xs : List A) → f x ≡ true → keep f (x ∷ xs) ≡ x ∷ keep f xs
@@ -271,3 +297,16 @@ rows-of-keep f (e ∷ es) d = go (f (row-for e)) refl (rows-of-keep f es (rest-a
         → rows-of (put-if b e (keep (λ x. f (row-for x)) es)) ≡ keep f (row-inserted (row-for e) (rows-of es))
     go true p ih = ap (row-inserted (row-for e)) ih ∙ sym (keep-inserted f (row-for e) p (rows-of-ascend es))
     go false p ih = ih ∙ sym (keep-inserted-not f (row-for e) p (rows-of-ascend es) ∙ removed-absent (train-of e) others)
+
+-- the order of the entries doesn't matter
+pub apart-reordered : {es fs : List Entry} → List·Permᴰ es fs → Apart es → Apart fs
+apart-reordered p d = distinct-reordered (map-reordered (λ e. train-of e .0) p) d
+
+members-reordered : {es fs : List Entry} → List·Permᴰ es fs → Apart fs → (r : Row) → Mem r (rows-of es) → Mem r (rows-of fs)
+members-reordered {es = es} p d r m =
+    let h : (e : Entry) × Mem e es × (row-for e ≡ r) = row-has-entry es m in
+    Memᴰ·cast (sym (h .2)) (entry-has-row d (mem-reordered p (h .1)))
+
+pub rows-of-reordered : {es fs : List Entry} → List·Permᴰ es fs → Apart es → rows-of es ≡ rows-of fs
+rows-of-reordered {es = es} {fs = fs} p d =
+    same-members (rows-of-ascend es) (rows-of-ascend fs) (members-reordered p (apart-reordered p d)) (members-reordered (Permᴰ·symm p) d)
