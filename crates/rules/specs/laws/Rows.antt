@@ -310,3 +310,81 @@ members-reordered {es = es} p d r m =
 pub rows-of-reordered : {es fs : List Entry} → List·Permᴰ es fs → Apart es → rows-of es ≡ rows-of fs
 rows-of-reordered {es = es} {fs = fs} p d =
     same-members (rows-of-ascend es) (rows-of-ascend fs) (members-reordered p (apart-reordered p d)) (members-reordered (Permᴰ·symm p) d)
+
+-- ---- what a board lists
+neither : (a b : Bool) → (a || b) ≡ false → (a ≡ false) × (b ≡ false)
+neither true b e = absurd (true≢false e)
+neither false b e = (refl, e)
+
+some-one-at : {A : Type 0} (f : A → Bool) {x : A} {xs : List A} → Mem x xs → f x ≡ true → some-one f xs ≡ true
+unfolding some-one
+some-one-at f (List·Memᴰ·head {xs = ys} e) h = ap (λ b. b || some-one f ys) (rw e at h)
+some-one-at f (List·Memᴰ·tail {x = y} m) h = ap (λ b. f y || b) (some-one-at f m h) ∙ or-true (f y)
+
+no-one : {A : Type 0} (f : A → Bool) {xs : List A} → All (λ x. f x ≡ false) xs → some-one f xs ≡ false
+unfolding some-one
+no-one f none = refl
+no-one f (more h a) = rw (h, no-one f a)
+
+no-one-all : {A : Type 0} (f : A → Bool) (xs : List A) → some-one f xs ≡ false → All (λ x. f x ≡ false) xs
+unfolding some-one
+no-one-all f [] e = none
+no-one-all f (x ∷ xs) e = let h = neither (f x) (some-one f xs) e in more (h .0) (no-one-all f xs (h .1))
+
+-- a train that isn't listed has no row
+pub unlisted-absent : (t : Train) (b : Board) → lists t b ≡ false → All (λ r. r .train .0 ≡ t .0 → ⊥) (b .rows)
+unfolding lists
+unlisted-absent t b e = all-map (no-one-all _ (b .rows) e) λ r h. eqb-false _ _ h
+
+pub unlisted-removed : (t : Train) (b : Board) → lists t b ≡ false → row-removed t (b .rows) ≡ b .rows
+unlisted-removed t b e = removed-absent t (unlisted-absent t b e)
+
+pub inserted-listed : (r : Row) (rs : List Row) (b : Board) → lists (r .train) (with-rows (row-inserted r rs) b) ≡ true
+unfolding lists
+inserted-listed r rs b = some-one-at _ (inserted-member r rs) (eq-eqb (r .train .0) _ refl)
+
+pub removed-unlisted : (t : Train) (rs : List Row) (b : Board) → lists t (with-rows (row-removed t rs) b) ≡ false
+unfolding lists row-removed
+removed-unlisted t rs b = no-one _ (all-kept _ (all-members rs λ r m e. not-true _ e))
+
+-- an open board lists the train of a report exactly if the box meets its window, and that of a withdrawal not
+pub told-lists : (r : Row) (b : Board) → is-open b ≡ true → lists (r .train) (told r b) ≡ meets (r .bounds) (b .window)
+unfolding told
+told-lists r b o = rw o (go (meets (r .bounds) (b .window)))
+  where
+    go : (m : Bool) → lists (r .train) (with-rows (cond m (row-inserted r (b .rows)) (row-removed (r .train) (b .rows))) b) ≡ m
+    go true = inserted-listed r (b .rows) b
+    go false = removed-unlisted (r .train) (b .rows) b
+
+pub untold-lists : (t : Train) (b : Board) → is-open b ≡ true → lists t (untold t b) ≡ false
+unfolding untold
+untold-lists t b o = rw o (removed-unlisted t (b .rows) b)
+
+-- a board that lists the train neither before nor after is unchanged (after a withdrawal no open one does)
+pub told-same : (r : Row) (b : Board) → lists (r .train) b ≡ false → lists (r .train) (told r b) ≡ false → told r b ≡ b
+unfolding told
+told-same r b h k = either (λ c. c ≡ b) (is-open b) while-open (λ o. refl)
+  where
+    while-open : is-open b ≡ true → with-rows (cond (meets (r .bounds) (b .window)) (row-inserted r (b .rows)) (row-removed (r .train) (b .rows))) b ≡ b
+    while-open o = rw (sym (told-lists r b o) ∙ k, unlisted-removed (r .train) b h)
+
+pub untold-same : (t : Train) (b : Board) → lists t b ≡ false → untold t b ≡ b
+unfolding untold
+untold-same t b h = either (λ c. c ≡ b) (is-open b) (λ o. rw (unlisted-removed t b h)) (λ o. refl)
+
+-- the same by the test of `touched`: a board that it doesn't count is unchanged
+pub told-untouched : (r : Row) (b : Board) → (is-open b && (lists (r .train) b || lists (r .train) (told r b))) ≡ false → told r b ≡ b
+unfolding told
+told-untouched r b h = go (is-open b) refl h
+  where
+    go : (o : Bool) → is-open b ≡ o → (o && (lists (r .train) b || lists (r .train) (told r b))) ≡ false → told r b ≡ b
+    go true e k = let n = neither (lists (r .train) b) _ k in told-same r b (n .0) (n .1)
+    go false e k = rw e
+
+pub untold-untouched : (t : Train) (b : Board) → (is-open b && (lists t b || lists t (untold t b))) ≡ false → untold t b ≡ b
+unfolding untold
+untold-untouched t b h = go (is-open b) refl h
+  where
+    go : (o : Bool) → is-open b ≡ o → (o && (lists t b || lists t (untold t b))) ≡ false → untold t b ≡ b
+    go true e k = untold-same t b (neither (lists t b) _ k .0)
+    go false e k = rw e
