@@ -3,9 +3,9 @@
 use Prim.Native.Nat.{ℕ, _<_, _≤_}
 use native.Mathlib.Omega.{arith}
 use mathlib.Core.Path.{_≡_, refl, sym, _∙_, ap, ap₂, fun-ext}
-use mathlib.Core.Bool.{Bool, true, false, not, cond, _&&_, _||_, and-comm, or-true, true≢false}
+use mathlib.Core.Bool.{Bool, true, false, cond, _&&_, _||_, and-comm, or-true, true≢false}
 use mathlib.Core.List.{List, [], _∷_, map, List·Memᴰ, List·Memᴰ·head, List·Memᴰ·tail, List·Memᴰ·not-nil, Memᴰ·cast}
-use mathlib.Core.List.{List·Permᴰ, List·Permᴰ·nil, List·Permᴰ·cons, List·Permᴰ·swap, List·Permᴰ·trans, Permᴰ·symm}
+use mathlib.Core.List.{List·Permᴰ, List·Permᴰ·nil, List·Permᴰ·cons, List·Permᴰ·swap, List·Permᴰ·trans, Permᴰ·refl, Permᴰ·symm}
 use lib.Dec.{eqb, ltb}
 use borrow.Author.Tests.{ltb-true, ltb-false, eqb-true, eqb-false, eq-eqb, ne-eqb, not-true}
 use Rattle.rules.specs.declared.Train.{Train}
@@ -18,7 +18,7 @@ use Rattle.rules.specs.Live.{row-inserted, row-removed, row-for, rows-of
 use Rattle.rules.specs.Boards.{is-open, lists, with-rows, told, untold}
 use Rattle.rules.specs.laws.Tests.{either}
 use Rattle.rules.specs.laws.All.{All, none, more, head-of, tail-of, all-map, all-kept}
-use Rattle.rules.specs.laws.Lists.{Distinct, d-none, d-more}
+use Rattle.rules.specs.laws.Lists.{Distinct, d-more}
 
 -- ---- members of any list
 abbrev pub Mem : {A : Type 0} → A → List A → Type 0
@@ -79,7 +79,8 @@ unfolding keep
 keep-both f g [] = refl
 keep-both f g (x ∷ xs) = go (f x) (keep-both f g xs)
   where
-    go : (b : Bool) → keep (λ x. f x && g x) xs ≡ keep g (keep f xs) → put-if (b && g x) x (keep (λ x. f x && g x) xs) ≡ keep g (put-if b x (keep f xs))
+    go : (b : Bool) → keep (λ x. f x && g x) xs ≡ keep g (keep f xs)
+        → put-if (b && g x) x (keep (λ x. f x && g x) xs) ≡ keep g (put-if b x (keep f xs))
     go true ih = ap (put-if (g x) x) ih
     go false ih = ih
 
@@ -100,12 +101,32 @@ keeps f {x = x} (List·Memᴰ·tail {x = y} {xs = ys} m) h = go (f y) (keeps f m
     go true k = List·Memᴰ·tail k
     go false k = k
 
+pub keep-reordered : {A : Type 0} (f : A → Bool) {xs ys : List A} → List·Permᴰ xs ys → List·Permᴰ (keep f xs) (keep f ys)
+unfolding keep
+keep-reordered f List·Permᴰ·nil = List·Permᴰ·nil
+keep-reordered f (List·Permᴰ·cons {a = x} {l₁ = xs} {l₂ = ys} e p) = rw (← e) (go (f x) (keep-reordered f p))
+  where
+    go : (b : Bool) → List·Permᴰ (keep f xs) (keep f ys) → List·Permᴰ (put-if b x (keep f xs)) (put-if b x (keep f ys))
+    go true q = List·Permᴰ·cons refl q
+    go false q = q
+keep-reordered f (List·Permᴰ·swap {a = x} {b = y} {l = zs} e g) = rw (← e, ← g) (go (f x) (f y))
+  where
+    go : (b c : Bool) → List·Permᴰ (put-if b x (put-if c y (keep f zs))) (put-if c y (put-if b x (keep f zs)))
+    go true true = List·Permᴰ·swap refl refl
+    go true false = Permᴰ·refl _
+    go false true = Permᴰ·refl _
+    go false false = Permᴰ·refl _
+keep-reordered f (List·Permᴰ·trans p q) = List·Permᴰ·trans (keep-reordered f p) (keep-reordered f q)
+
 -- ---- each train is below the next
 abbrev pub Above : ℕ → List Row → Type 0
 Above t rs = All (λ r. t < r .train .0) rs
 
 lower : {t u : ℕ} {rs : List Row} → t ≤ u → Above u rs → Above t rs
 lower h a = all-map a λ r k. omega arith
+
+before : (r q : Row) {qs : List Row} → r .train .0 < q .train .0 → Above (q .train .0) qs → Above (r .train .0) (q ∷ qs)
+before r q e h = more e (lower (omega arith) h)
 
 above-kept : (f : Row → Bool) {t : ℕ} {rs : List Row} → Above t rs → Above t (keep f rs)
 above-kept f a = all-kept f (all-map a λ r h e. h)
@@ -119,13 +140,13 @@ inserted-case : (P : List Row → Type 0) (r q : Row) (qs : List Row)
     → (r .train .0 < q .train .0 → P (r ∷ q ∷ qs)) → (r .train .0 ≡ q .train .0 → P (r ∷ qs))
     → (q .train .0 < r .train .0 → P (q ∷ row-inserted r qs)) → P (row-inserted r (q ∷ qs))
 unfolding row-inserted
-inserted-case P r q qs before same after = go (ltb (r .train .0) (q .train .0)) refl (eqb (r .train .0) (q .train .0)) refl
+inserted-case P r q qs below same above = go (ltb (r .train .0) (q .train .0)) refl (eqb (r .train .0) (q .train .0)) refl
   where
     go : (b : Bool) → ltb (r .train .0) (q .train .0) ≡ b → (c : Bool) → eqb (r .train .0) (q .train .0) ≡ c
         → P (cond b (r ∷ q ∷ qs) (cond c (r ∷ qs) (q ∷ row-inserted r qs)))
-    go true e c f = before (ltb-true _ _ e)
+    go true e c f = below (ltb-true _ _ e)
     go false e true f = same (eqb-true _ _ f)
-    go false e false f = after (omega (arith, ltb-false, eqb-false))
+    go false e false f = above (omega (arith, ltb-false, eqb-false))
 
 pub all-inserted : {P : Row → Type 0} (r : Row) {rs : List Row} → P r → All P rs → All P (row-inserted r rs)
 unfolding row-inserted
@@ -138,7 +159,7 @@ unfolding row-inserted
 inserted-ascend r r-none = r-more none r-none
 inserted-ascend r (r-more {r = q} {rs = qs} h a) =
     inserted-case RowsAscend r q qs
-    (λ e. r-more (more e (lower (omega arith) h)) (r-more h a))
+    (λ e. r-more (before r q e h) (r-more h a))
     (λ e. r-more (lower (omega arith) h) a)
     (λ e. r-more (all-inserted r e h) (inserted-ascend r a))
 
@@ -170,7 +191,8 @@ past-first : {r y : Row} {ys : List Row} → y .train .0 < r .train .0 → Mem r
 past-first h (List·Memᴰ·head e) = absurd (omega (arith, ap (λ r. r .train .0) e))
 past-first h (List·Memᴰ·tail m) = m
 
-pub same-members : {xs ys : List Row} → RowsAscend xs → RowsAscend ys → ((r : Row) → Mem r xs → Mem r ys) → ((r : Row) → Mem r ys → Mem r xs) → xs ≡ ys
+pub same-members : {xs ys : List Row} → RowsAscend xs → RowsAscend ys
+    → ((r : Row) → Mem r xs → Mem r ys) → ((r : Row) → Mem r ys → Mem r xs) → xs ≡ ys
 same-members r-none r-none f g = refl
 same-members r-none (r-more {r = y} b d) f g = absurd (List·Memᴰ·not-nil (g y (List·Memᴰ·head refl)))
 same-members (r-more {r = x} a c) r-none f g = absurd (List·Memᴰ·not-nil (f x (List·Memᴰ·head refl)))
@@ -204,13 +226,22 @@ removed-absent t a = keep-all _ (all-map a λ r h. rw (ne-eqb _ _ h))
 removed-above : (r : Row) {rs : List Row} → Above (r .train .0) rs → row-removed (r .train) rs ≡ rs
 removed-above r a = removed-absent (r .train) (all-map a λ q h. omega arith)
 
+removed-same : (r q : Row) (qs : List Row) → r .train .0 ≡ q .train .0 → row-removed (r .train) (q ∷ qs) ≡ row-removed (r .train) qs
+unfolding row-removed
+removed-same r q qs e = keep-no _ q qs (rw (eq-eqb _ _ (sym e)))
+
+removed-after : (r q : Row) (qs : List Row) → q .train .0 < r .train .0 → row-removed (r .train) (q ∷ qs) ≡ q ∷ row-removed (r .train) qs
+unfolding row-removed
+removed-after r q qs e = keep-yes _ q qs (rw (ne-eqb (q .train .0) (r .train .0) (omega arith)))
+
 -- where the row passes, it is inserted into those that pass
-pub keep-inserted : (f : Row → Bool) (r : Row) {rs : List Row} → f r ≡ true → RowsAscend rs → keep f (row-inserted r rs) ≡ row-inserted r (keep f rs)
+pub keep-inserted : (f : Row → Bool) (r : Row) {rs : List Row} → f r ≡ true → RowsAscend rs
+    → keep f (row-inserted r rs) ≡ row-inserted r (keep f rs)
 unfolding row-inserted keep
 keep-inserted f r p r-none = rw p
 keep-inserted f r p (r-more {r = q} {rs = qs} h a) =
     inserted-case (λ l. keep f l ≡ row-inserted r (keep f (q ∷ qs))) r q qs
-    (λ e. keep-yes f r (q ∷ qs) p ∙ sym (inserted-first r (above-kept f (more e (lower (omega arith) h)))))
+    (λ e. keep-yes f r (q ∷ qs) p ∙ sym (inserted-first r (above-kept f (before r q e h))))
     (λ e. keep-yes f r qs p ∙ same (f q) e)
     (λ e. after (f q) e (keep-inserted f r p a))
   where
@@ -224,27 +255,38 @@ keep-inserted f r p (r-more {r = q} {rs = qs} h a) =
     after false e ih = ih
 
 -- where it does not, its train is removed from them
-pub keep-inserted-not : (f : Row → Bool) (r : Row) {rs : List Row} → f r ≡ false → RowsAscend rs → keep f (row-inserted r rs) ≡ row-removed (r .train) (keep f rs)
+pub keep-inserted-not : (f : Row → Bool) (r : Row) {rs : List Row} → f r ≡ false → RowsAscend rs
+    → keep f (row-inserted r rs) ≡ row-removed (r .train) (keep f rs)
 unfolding row-inserted keep row-removed
 keep-inserted-not f r p r-none = rw p
 keep-inserted-not f r p (r-more {r = q} {rs = qs} h a) =
     inserted-case (λ l. keep f l ≡ row-removed (r .train) (keep f (q ∷ qs))) r q qs
-    (λ e. keep-no f r (q ∷ qs) p ∙ sym (removed-above r (above-kept f (more e (lower (omega arith) h)))))
+    (λ e. keep-no f r (q ∷ qs) p ∙ sym (removed-above r (above-kept f (before r q e h))))
     (λ e. keep-no f r qs p ∙ same (f q) e)
     (λ e. after (f q) e (keep-inserted-not f r p a))
   where
     same : (b : Bool) → r .train .0 ≡ q .train .0 → keep f qs ≡ row-removed (r .train) (put-if b q (keep f qs))
-    same true e = sym (keep-no _ q (keep f qs) (rw (eq-eqb _ _ (sym e))) ∙ removed-above r (above-kept f (lower (omega arith) h)))
+    same true e = sym (removed-same r q (keep f qs) e ∙ removed-above r (above-kept f (lower (omega arith) h)))
     same false e = sym (removed-above r (above-kept f (lower (omega arith) h)))
 
     after : (b : Bool) → q .train .0 < r .train .0 → keep f (row-inserted r qs) ≡ row-removed (r .train) (keep f qs)
         → put-if b q (keep f (row-inserted r qs)) ≡ row-removed (r .train) (put-if b q (keep f qs))
-    after true e ih = ap (λ l. q ∷ l) ih ∙ sym (keep-yes _ q (keep f qs) (rw (ne-eqb (q .train .0) (r .train .0) (omega arith))))
+    after true e ih = ap (λ l. q ∷ l) ih ∙ sym (removed-after r q (keep f qs) e)
     after false e ih = ih
 
 pub keep-removed : (f : Row → Bool) (t : Train) (rs : List Row) → keep f (row-removed t rs) ≡ row-removed t (keep f rs)
 unfolding row-removed
 keep-removed f t rs = keep-swap f _ rs
+
+-- a row that is removed first is inserted all the same
+pub inserted-removed : (r : Row) {rs : List Row} → RowsAscend rs → row-inserted r (row-removed (r .train) rs) ≡ row-inserted r rs
+unfolding row-removed keep
+inserted-removed r r-none = refl
+inserted-removed r (r-more {r = q} {rs = qs} h a) =
+    inserted-case (λ l. row-inserted r (row-removed (r .train) (q ∷ qs)) ≡ l) r q qs
+    (λ e. let u = before r q e h in ap (row-inserted r) (removed-above r u) ∙ inserted-first r u)
+    (λ e. let u = lower (omega arith) h in ap (row-inserted r) (removed-same r q qs e ∙ removed-above r u) ∙ inserted-first r u)
+    (λ e. ap (row-inserted r) (removed-after r q qs e) ∙ inserted-after r q _ e ∙ ap (λ l. q ∷ l) (inserted-removed r a))
 
 -- ---- the rows of entries whose trains are distinct
 abbrev pub Apart : List Entry → Type 0
@@ -265,17 +307,23 @@ all-rows-of (more {x = e} h a) = all-inserted (row-for e) h (all-rows-of a)
 pub row-has-entry : {r : Row} (es : List Entry) → Mem r (rows-of es) → (e : Entry) × Mem e es × (row-for e ≡ r)
 row-has-entry es m = all-at {P = λ r. (e : Entry) × Mem e es × (row-for e ≡ r)} (all-rows-of (all-members es λ e n. (e, n, refl))) m
 
-inserted-member : (r : Row) (rs : List Row) → Mem r (row-inserted r rs)
+pub inserted-member : (r : Row) (rs : List Row) → Mem r (row-inserted r rs)
 unfolding row-inserted
 inserted-member r [] = List·Memᴰ·head refl
 inserted-member r (q ∷ qs) =
     inserted-case (Mem r) r q qs (λ e. List·Memᴰ·head refl) (λ e. List·Memᴰ·head refl) (λ e. List·Memᴰ·tail (inserted-member r qs))
 
-inserted-keeps : (r : Row) {p : Row} {rs : List Row} → (p .train .0 ≡ r .train .0 → ⊥) → Mem p rs → Mem p (row-inserted r rs)
+pub inserted-keeps : (r : Row) {p : Row} {rs : List Row} → (p .train .0 ≡ r .train .0 → ⊥) → Mem p rs → Mem p (row-inserted r rs)
 inserted-keeps r {p = p} n (List·Memᴰ·head {x = q} {xs = qs} e) =
-    inserted-case (Mem p) r q qs (λ k. List·Memᴰ·tail (List·Memᴰ·head e)) (λ k. absurd (n (ap (λ z. z .train .0) e ∙ sym k))) (λ k. List·Memᴰ·head e)
+    inserted-case (Mem p) r q qs
+    (λ k. List·Memᴰ·tail (List·Memᴰ·head e))
+    (λ k. absurd (n (ap (λ z. z .train .0) e ∙ sym k)))
+    (λ k. List·Memᴰ·head e)
 inserted-keeps r {p = p} n (List·Memᴰ·tail {x = q} {xs = qs} m) =
-    inserted-case (Mem p) r q qs (λ k. List·Memᴰ·tail (List·Memᴰ·tail m)) (λ k. List·Memᴰ·tail m) (λ k. List·Memᴰ·tail (inserted-keeps r n m))
+    inserted-case (Mem p) r q qs
+    (λ k. List·Memᴰ·tail (List·Memᴰ·tail m))
+    (λ k. List·Memᴰ·tail m)
+    (λ k. List·Memᴰ·tail (inserted-keeps r n m))
 
 -- each entry has its row, where the trains are distinct
 pub entry-has-row : {e : Entry} {es : List Entry} → Apart es → Mem e es → Mem (row-for e) (rows-of es)
@@ -365,7 +413,8 @@ pub told-same : (r : Row) (b : Board) → lists (r .train) b ≡ false → lists
 unfolding told
 told-same r b h k = either (λ c. c ≡ b) (is-open b) while-open (λ o. refl)
   where
-    while-open : is-open b ≡ true → with-rows (cond (meets (r .bounds) (b .window)) (row-inserted r (b .rows)) (row-removed (r .train) (b .rows))) b ≡ b
+    while-open : is-open b ≡ true
+        → with-rows (cond (meets (r .bounds) (b .window)) (row-inserted r (b .rows)) (row-removed (r .train) (b .rows))) b ≡ b
     while-open o = rw (sym (told-lists r b o) ∙ k, unlisted-removed (r .train) b h)
 
 pub untold-same : (t : Train) (b : Board) → lists t b ≡ false → untold t b ≡ b

@@ -75,7 +75,8 @@ unfolding untold
 untold-isopen t b = either (λ (c : Board). c .isopen ≡ b .isopen) (is-open b) (λ o. refl) (λ o. refl)
 
 -- an open board that shows the rows in its window still does after it is told of the row that a report puts among them
-pub told-shows : (r : Row) (b : Board) (rs : List Row) → is-open b ≡ true → RowsAscend rs → b .rows ≡ keep (λ q. meets (q .bounds) (b .window)) rs
+pub told-shows : (r : Row) (b : Board) (rs : List Row) → is-open b ≡ true → RowsAscend rs
+    → b .rows ≡ keep (λ q. meets (q .bounds) (b .window)) rs
     → told r b .rows ≡ keep (λ q. meets (q .bounds) (b .window)) (row-inserted r rs)
 unfolding told
 told-shows r b rs o a e = rw (o, e) (go (meets (r .bounds) (b .window)) refl)
@@ -83,7 +84,8 @@ told-shows r b rs o a e = rw (o, e) (go (meets (r .bounds) (b .window)) refl)
     inside : Row → Bool
     inside q = meets (q .bounds) (b .window)
 
-    go : (m : Bool) → inside r ≡ m → cond m (row-inserted r (keep inside rs)) (row-removed (r .train) (keep inside rs)) ≡ keep inside (row-inserted r rs)
+    go : (m : Bool) → inside r ≡ m
+        → cond m (row-inserted r (keep inside rs)) (row-removed (r .train) (keep inside rs)) ≡ keep inside (row-inserted r rs)
     go true m = sym (keep-inserted inside r m a)
     go false m = sym (keep-inserted-not inside r m a)
 
