@@ -12,5 +12,6 @@ pub mod Numbers
 pub mod Steps
 pub mod Calls
 pub mod laws
+pub mod theorems
 pub mod Text
 pub mod Examples
