@@ -2,3 +2,4 @@
 pub mod Tests
 pub mod All
 pub mod Lists
+pub mod Words

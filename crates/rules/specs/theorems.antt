@@ -1,0 +1,2 @@
+-- Theorems about the definitions: what they were written to mean.
+pub mod WordsAndBack
