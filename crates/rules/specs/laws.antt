@@ -3,3 +3,4 @@ pub mod Tests
 pub mod All
 pub mod Lists
 pub mod Words
+pub mod Parts
