@@ -47,7 +47,8 @@ pub words-sizes : (s : Store) → in-range s ≡ true → sizes-read (words s) �
 unfolding sizes-read words header-words padded in-range
 words-sizes s e = each _ e .0
 
-sound-in-range : (s : Store) → sound s ≡ true → in-range s ≡ true
+-- a sound store is in range
+pub sound-in-range : (s : Store) → sound s ≡ true → in-range s ≡ true
 unfolding sound
 sound-in-range s e = each _ e .0
 
@@ -56,6 +57,7 @@ pub words-sound : (s : Store) → sound s ≡ true → sound-words (words s) ≡
 unfolding sound-words
 words-sound s e = rw (words-read s (sound-in-range s e)) (and-both (same-words-self (words s)) e)
 
+-- they are long enough for the counts to be read
 at-least-16 : (s : Store) → in-range s ≡ true → 16 ≤ length (words s)
 unfolding store-length
 at-least-16 s e = omega (arith, words-length s (in-range-fits s e))
