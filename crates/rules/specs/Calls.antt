@@ -7,7 +7,7 @@ use lib.ListN.{length, getD, take, drop}
 use Rattle.rules.specs.declared.Window.{Window}
 use Rattle.rules.specs.Lists.{all-of, every, cut, lists-open}
 use Rattle.rules.specs.Boxes.{proper-window, boxes-open}
-use Rattle.rules.specs.Store.{Store, memo-start, boards-start, store-length, board-at, row-words, words, store-of, fresh, store-open}
+use Rattle.rules.specs.Store.{memo-start, boards-start, store-length, board-at, row-words, words, store-of, fresh, store-open}
 use Rattle.rules.specs.Memo.{memo-open}
 use Rattle.rules.specs.Live.{rows-in, live-open}
 use Rattle.rules.specs.Tree.{tree-open}

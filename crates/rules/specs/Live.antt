@@ -1,6 +1,6 @@
 -- What the index holds: the entries in the tree, the latest ones as the live list, and a query's rows.
 use Prim.Native.Nat.{ℕ, zero, suc}
-use mathlib.Core.Bool.{Bool, not, cond, _&&_}
+use mathlib.Core.Bool.{not, cond, _&&_}
 use mathlib.Core.List.{List, [], _∷_, flatMap}
 use lib.Dec.{eqb, ltb}
 use Rattle.rules.specs.declared.Train.{Train}

@@ -1,9 +1,9 @@
 -- The memo: which stamp of a train is the latest, and how many old entries of it may be held.
-use Prim.Native.Nat.{ℕ, zero, suc, _-_}
+use Prim.Native.Nat.{suc, _-_}
 use mathlib.Core.Bool.{Bool, true, false, not, cond}
 use mathlib.Core.List.{List, [], _∷_}
-use lib.Dec.{eqb, leb, ltb}
-use lib.ListN.{length, set}
+use lib.Dec.{eqb, ltb}
+use lib.ListN.{set}
 use Rattle.rules.specs.declared.Train.{Train}
 use Rattle.rules.specs.declared.Stamp.{Stamp}
 use Rattle.rules.specs.declared.Entry.{Entry}

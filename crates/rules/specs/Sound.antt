@@ -7,13 +7,12 @@ use lib.ListN.{length}
 use Rattle.rules.specs.declared.Stamp.{Stamp}
 use Rattle.rules.specs.declared.PageNo.{PageNo}
 use Rattle.rules.specs.declared.Box.{Box}
-use Rattle.rules.specs.declared.Window.{Window}
 use Rattle.rules.specs.declared.Entry.{Entry}
 use Rattle.rules.specs.declared.Slot.{Slot}
 use Rattle.rules.specs.declared.Row.{Row}
 use Rattle.rules.specs.declared.LookUp.{LookUp}
 use Rattle.rules.specs.declared.LookUp.the-variants.{Absent, Found}
-use Rattle.rules.specs.Lists.{all-of, one-of, one-if, keep, every, count, from, distinct, ascending, same-words}
+use Rattle.rules.specs.Lists.{all-of, one-if, keep, every, count, from, distinct, ascending, same-words}
 use Rattle.rules.specs.Boxes.{proper-box, proper-window}
 use Rattle.rules.specs.Store.{Page, Board, Store, limit, row-limit, page-no, child-of, train-of, page-at, box-words, window-words, row-words, words, store-of}
 use Rattle.rules.specs.Memo.{look-up, is-latest, is-obsolete}

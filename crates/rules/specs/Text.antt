@@ -7,7 +7,7 @@ use mathlib.Core.List.{List, [], _∷_, _++_, map, flatMap}
 use lib.Dec.{eqb}
 use lib.ListN.{length, getD, replicate, drop}
 use Rattle.rules.specs.Lists.{all-of, same-words}
-use Rattle.rules.specs.Store.{Store, fresh, words, window-of, slot-words, row-words}
+use Rattle.rules.specs.Store.{fresh, words, window-of, slot-words, row-words}
 use Rattle.rules.specs.Live.{rows-in}
 use Rattle.rules.specs.Sound.{sound}
 use Rattle.rules.specs.Steps.{Ran, step-of, run}

@@ -2,4 +2,8 @@
 pub mod Tests
 pub mod All
 pub mod Lists
+pub mod Order
+pub mod Kept
 pub mod Rows
+pub mod Words
+pub mod Parts

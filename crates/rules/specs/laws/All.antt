@@ -1,10 +1,10 @@
 -- What holds of every element of a list, and the tests that ask for it.
-use Prim.Native.Nat.{ℕ, zero, suc, _≤_, _<_, _+_}
-use native.Mathlib.Omega.{arith}
-use mathlib.Core.Path.{_≡_, refl, sym, ap, ap₂}
-use mathlib.Core.Bool.{Bool, true, false, _&&_}
-use mathlib.Core.List.{List, [], _∷_, _++_, map, flatMap}
-use lib.ListN.{length, replicate}
+use Prim.Native.Nat.{ℕ, zero, suc, _<_}
+use mathlib.Core.Path.{_≡_, refl, sym, ap₂}
+use mathlib.Core.Bool.{Bool, true, false}
+use mathlib.Core.List.{List, [], _∷_, _++_, map, flatMap, List·Memᴰ, List·Memᴰ·head, append-assoc, List·Memᴰ·tail}
+use native.Mathlib.Nat.{not-suc-le-zero, le-of-suc-le-suc}
+use lib.ListN.{length, replicate, take, getD, set}
 use Rattle.rules.specs.Lists.{every, keep, put-if}
 use Rattle.rules.specs.laws.Tests.{and-left, and-right, and-both}
 
@@ -77,6 +77,12 @@ pub all-replicate : {A : Type 0} {P : A → Type 0} (n : ℕ) (x : A) → P x �
 all-replicate zero x h = none
 all-replicate (suc n) x h = more h (all-replicate n x h)
 
+-- the parts of two lists stand one after the other
+pub flat-append : {A B : Type 0} (f : A → List B) (xs ys : List A) → flatMap f (xs ++ ys) ≡ flatMap f xs ++ flatMap f ys
+unfolding flatMap
+flat-append f [] ys = refl
+flat-append f (x ∷ xs) ys = rw (flat-append f xs ys) (sym (append-assoc (f x) (flatMap f xs) (flatMap f ys)))
+
 -- ---- where all agree
 pub flat-cong : {A B : Type 0} (f g : A → List B) {xs : List A} → All (λ x. f x ≡ g x) xs → flatMap f xs ≡ flatMap g xs
 unfolding flatMap
@@ -86,3 +92,40 @@ flat-cong f g (more h a) = rw (h, flat-cong f g a)
 pub map-back : {A B : Type 0} (f : B → A) (g : A → B) {xs : List A} → All (λ x. f (g x) ≡ x) xs → map f (map g xs) ≡ xs
 map-back f g none = refl
 map-back f g (more h a) = ap₂ (λ u v. u ∷ v) h (map-back f g a)
+
+-- what holds always holds of every element
+pub always : {A : Type 0} {P : A → Type 0} → ((x : A) → P x) → (xs : List A) → All P xs
+always h [] = none
+always h (x ∷ xs) = more (h x) (always h xs)
+
+-- ---- at a place, and where a place is set
+pub all-at : {A : Type 0} {P : A → Type 0} {xs : List A} → All P xs → (i : ℕ) (d : A) → i < length xs → P (getD xs i d)
+all-at none i d h = absurd (not-suc-le-zero h)
+all-at (more p a) zero d h = p
+all-at (more p a) (suc i) d h = all-at a i d (le-of-suc-le-suc h)
+
+pub all-take : {A : Type 0} {P : A → Type 0} {xs : List A} → All P xs → (i : ℕ) → All P (take i xs)
+all-take a zero = none
+all-take none (suc i) = none
+all-take (more p a) (suc i) = more p (all-take a i)
+
+pub all-set : {A : Type 0} {P : A → Type 0} {xs : List A} → All P xs → (i : ℕ) {x : A} → P x → All P (set xs i x)
+all-set none i q = none
+all-set (more p a) zero q = more q a
+all-set (more p a) (suc i) q = more p (all-set a i q)
+
+-- ---- members of any list
+abbrev pub Mem : {A : Type 0} → A → List A → Type 0
+Mem x xs = List·Memᴰ x xs
+
+pub all-member : {A : Type 0} {P : A → Type 0} {x : A} {xs : List A} → All P xs → Mem x xs → P x
+all-member (more h a) (List·Memᴰ·head e) = rw e h
+all-member (more h a) (List·Memᴰ·tail m) = all-member a m
+
+pub all-members : {A : Type 0} {P : A → Type 0} (xs : List A) → ((x : A) → Mem x xs → P x) → All P xs
+all-members [] h = none
+all-members (x ∷ xs) h = more (h x (List·Memᴰ·head refl)) (all-members xs λ y m. h y (List·Memᴰ·tail m))
+
+pub all-unmapped : {A B : Type 0} {P : B → Type 0} (g : A → B) (xs : List A) → All P (map g xs) → All (λ x. P (g x)) xs
+all-unmapped g [] a = none
+all-unmapped g (x ∷ xs) a = more (head-of a) (all-unmapped g xs (tail-of a))

@@ -1,14 +1,14 @@
 -- Laws of the tests on lists of numbers.
-use Prim.Native.Nat.{ℕ, zero, suc, _<_, _≤_}
+use Prim.Native.Nat.{ℕ, _<_}
 use native.Mathlib.Omega.{arith}
 use mathlib.Core.Path.{_≡_, refl, ap₂}
-use mathlib.Core.Bool.{Bool, true, false, _&&_, _||_, false≢true}
+use mathlib.Core.Bool.{Bool, true, false, _||_, false≢true}
 use mathlib.Core.List.{List, [], _∷_}
 use lib.Dec.{eqb, ltb}
 use borrow.Author.Tests.{ltb-true, ltb-false, lt-ltb, eqb-true, eq-eqb}
 use Rattle.rules.specs.Lists.{every, distinct, ascending, same-words}
 use Rattle.rules.specs.laws.Tests.{and-left, and-right, and-both}
-use Rattle.rules.specs.laws.All.{All, none, more, all-map, every-all, all-every}
+use Rattle.rules.specs.laws.All.{All, all-map, every-all, all-every}
 
 -- ---- the same words
 pub same-words-equal : (xs ys : List ℕ) → same-words xs ys ≡ true → xs ≡ ys

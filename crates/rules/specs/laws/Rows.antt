@@ -2,10 +2,10 @@
 -- keeping do to them.
 use Prim.Native.Nat.{ℕ, _<_, _≤_}
 use native.Mathlib.Omega.{arith}
-use mathlib.Core.Path.{_≡_, refl, sym, _∙_, ap, ap₂, fun-ext}
-use mathlib.Core.Bool.{Bool, true, false, cond, _&&_, _||_, and-comm, or-true, true≢false}
-use mathlib.Core.List.{List, [], _∷_, map, List·Memᴰ, List·Memᴰ·head, List·Memᴰ·tail, List·Memᴰ·not-nil, Memᴰ·cast}
-use mathlib.Core.List.{List·Permᴰ, List·Permᴰ·nil, List·Permᴰ·cons, List·Permᴰ·swap, List·Permᴰ·trans, Permᴰ·refl, Permᴰ·symm}
+use mathlib.Core.Path.{_≡_, refl, sym, _∙_, ap, ap₂}
+use mathlib.Core.Bool.{Bool, true, false, cond, _&&_, _||_, or-true, true≢false}
+use mathlib.Core.List.{List, [], _∷_, map, List·Memᴰ·head, List·Memᴰ·tail, List·Memᴰ·not-nil, Memᴰ·cast}
+use mathlib.Core.List.{List·Permᴰ, Permᴰ·symm}
 use lib.Dec.{eqb, ltb}
 use borrow.Author.Tests.{ltb-true, ltb-false, eqb-true, eqb-false, eq-eqb, ne-eqb, not-true}
 use Rattle.rules.specs.declared.Train.{Train}
@@ -17,106 +17,10 @@ use Rattle.rules.specs.Store.{Board, train-of}
 use Rattle.rules.specs.Live.{row-inserted, row-removed, row-for, rows-of}
 use Rattle.rules.specs.Boards.{is-open, lists, with-rows, told, untold}
 use Rattle.rules.specs.laws.Tests.{either}
-use Rattle.rules.specs.laws.All.{All, none, more, head-of, tail-of, all-map, all-kept}
+use Rattle.rules.specs.laws.All.{All, none, more, all-map, all-kept, Mem, all-members, all-unmapped, all-member}
 use Rattle.rules.specs.laws.Lists.{Distinct, d-more}
-
--- ---- members of any list
-abbrev pub Mem : {A : Type 0} → A → List A → Type 0
-Mem x xs = List·Memᴰ x xs
-
-pub all-at : {A : Type 0} {P : A → Type 0} {x : A} {xs : List A} → All P xs → Mem x xs → P x
-all-at (more h a) (List·Memᴰ·head e) = rw e h
-all-at (more h a) (List·Memᴰ·tail m) = all-at a m
-
-pub all-members : {A : Type 0} {P : A → Type 0} (xs : List A) → ((x : A) → Mem x xs → P x) → All P xs
-all-members [] h = none
-all-members (x ∷ xs) h = more (h x (List·Memᴰ·head refl)) (all-members xs λ y m. h y (List·Memᴰ·tail m))
-
-pub all-unmapped : {A B : Type 0} {P : B → Type 0} (g : A → B) (xs : List A) → All P (map g xs) → All (λ x. P (g x)) xs
-all-unmapped g [] a = none
-all-unmapped g (x ∷ xs) a = more (head-of a) (all-unmapped g xs (tail-of a))
-
--- ---- a list in another order
-pub all-reordered : {A : Type 0} {P : A → Type 0} {xs ys : List A} → List·Permᴰ xs ys → All P xs → All P ys
-all-reordered List·Permᴰ·nil a = a
-all-reordered (List·Permᴰ·cons e p) (more h a) = more (rw e at h) (all-reordered p a)
-all-reordered (List·Permᴰ·swap e f) (more h (more k a)) = more (rw f at k) (more (rw e at h) a)
-all-reordered (List·Permᴰ·trans p q) a = all-reordered q (all-reordered p a)
-
-pub mem-reordered : {A : Type 0} {x : A} {xs ys : List A} → List·Permᴰ xs ys → Mem x xs → Mem x ys
-mem-reordered {ys = ys} p m = all-at (all-reordered (Permᴰ·symm p) (all-members ys λ y n. n)) m
-
-pub map-reordered : {A B : Type 0} (g : A → B) {xs ys : List A} → List·Permᴰ xs ys → List·Permᴰ (map g xs) (map g ys)
-map-reordered g List·Permᴰ·nil = List·Permᴰ·nil
-map-reordered g (List·Permᴰ·cons e p) = List·Permᴰ·cons (ap g e) (map-reordered g p)
-map-reordered g (List·Permᴰ·swap e f) = List·Permᴰ·swap (ap g e) (ap g f)
-map-reordered g (List·Permᴰ·trans p q) = List·Permᴰ·trans (map-reordered g p) (map-reordered g q)
-
-pub distinct-reordered : {xs ys : List ℕ} → List·Permᴰ xs ys → Distinct xs → Distinct ys
-distinct-reordered List·Permᴰ·nil d = d
-distinct-reordered (List·Permᴰ·cons e p) (d-more h d) = rw (← e) (d-more (all-reordered p h) (distinct-reordered p d))
-distinct-reordered (List·Permᴰ·swap e f) (d-more (more n h) (d-more k d)) = rw (← e, ← f) (d-more (more (λ q. n (sym q)) k) (d-more h d))
-distinct-reordered (List·Permᴰ·trans p q) d = distinct-reordered q (distinct-reordered p d)
-
--- ---- the kept ones of any list
-pub keep-yes : {A : Type 0} (f : A → Bool) (x : A) (xs : List A) → f x ≡ true → keep f (x ∷ xs) ≡ x ∷ keep f xs
-unfolding keep
-keep-yes f x xs e = rw e
-
-pub keep-no : {A : Type 0} (f : A → Bool) (x : A) (xs : List A) → f x ≡ false → keep f (x ∷ xs) ≡ keep f xs
-unfolding keep
-keep-no f x xs e = rw e
-
--- where all pass, all are kept
-pub keep-all : {A : Type 0} (f : A → Bool) {xs : List A} → All (λ x. f x ≡ true) xs → keep f xs ≡ xs
-unfolding keep
-keep-all f none = refl
-keep-all f (more h a) = rw (h, keep-all f a)
-
--- one test after the other is both at once
-pub keep-both : {A : Type 0} (f g : A → Bool) (xs : List A) → keep (λ x. f x && g x) xs ≡ keep g (keep f xs)
-unfolding keep
-keep-both f g [] = refl
-keep-both f g (x ∷ xs) = go (f x) (keep-both f g xs)
-  where
-    go : (b : Bool) → keep (λ x. f x && g x) xs ≡ keep g (keep f xs)
-        → put-if (b && g x) x (keep (λ x. f x && g x) xs) ≡ keep g (put-if b x (keep f xs))
-    go true ih = ap (put-if (g x) x) ih
-    go false ih = ih
-
--- of two tests it doesn't matter which comes first
-pub keep-swap : {A : Type 0} (f g : A → Bool) (xs : List A) → keep f (keep g xs) ≡ keep g (keep f xs)
-keep-swap f g xs = sym (keep-both g f xs) ∙ ap (λ h. keep h xs) (fun-ext λ x. and-comm (g x) (f x)) ∙ keep-both f g xs
-
--- the kept are the members that pass
-pub kept : {A : Type 0} (f : A → Bool) {x : A} (xs : List A) → Mem x (keep f xs) → Mem x xs × (f x ≡ true)
-kept f xs m = all-at {P = λ x. Mem x xs × (f x ≡ true)} (all-kept f (all-members xs λ x n e. (n, e))) m
-
-pub keeps : {A : Type 0} (f : A → Bool) {x : A} {xs : List A} → Mem x xs → f x ≡ true → Mem x (keep f xs)
-unfolding keep
-keeps f (List·Memᴰ·head e) h = rw (rw e at h) (List·Memᴰ·head e)
-keeps f {x = x} (List·Memᴰ·tail {x = y} {xs = ys} m) h = go (f y) (keeps f m h)
-  where
-    go : (b : Bool) → Mem x (keep f ys) → Mem x (put-if b y (keep f ys))
-    go true k = List·Memᴰ·tail k
-    go false k = k
-
-pub keep-reordered : {A : Type 0} (f : A → Bool) {xs ys : List A} → List·Permᴰ xs ys → List·Permᴰ (keep f xs) (keep f ys)
-unfolding keep
-keep-reordered f List·Permᴰ·nil = List·Permᴰ·nil
-keep-reordered f (List·Permᴰ·cons {a = x} {l₁ = xs} {l₂ = ys} e p) = rw (← e) (go (f x) (keep-reordered f p))
-  where
-    go : (b : Bool) → List·Permᴰ (keep f xs) (keep f ys) → List·Permᴰ (put-if b x (keep f xs)) (put-if b x (keep f ys))
-    go true q = List·Permᴰ·cons refl q
-    go false q = q
-keep-reordered f (List·Permᴰ·swap {a = x} {b = y} {l = zs} e g) = rw (← e, ← g) (go (f x) (f y))
-  where
-    go : (b c : Bool) → List·Permᴰ (put-if b x (put-if c y (keep f zs))) (put-if c y (put-if b x (keep f zs)))
-    go true true = List·Permᴰ·swap refl refl
-    go true false = Permᴰ·refl _
-    go false true = Permᴰ·refl _
-    go false false = Permᴰ·refl _
-keep-reordered f (List·Permᴰ·trans p q) = List·Permᴰ·trans (keep-reordered f p) (keep-reordered f q)
+use Rattle.rules.specs.laws.Order.{distinct-reordered, map-reordered, mem-reordered}
+use Rattle.rules.specs.laws.Kept.{keep-all, keep-no, keep-swap, keep-yes}
 
 -- ---- each train is below the next
 abbrev pub Above : ℕ → List Row → Type 0
@@ -185,7 +89,7 @@ rows-of-ascend (e ∷ es) = inserted-ascend (row-for e) (rows-of-ascend es)
 same-first : {x y : Row} {xs ys : List Row} → Above (x .train .0) xs → Above (y .train .0) ys → Mem x (y ∷ ys) → Mem y (x ∷ xs) → x ≡ y
 same-first a b (List·Memᴰ·head e) n = e
 same-first a b (List·Memᴰ·tail m) (List·Memᴰ·head e) = sym e
-same-first a b (List·Memᴰ·tail m) (List·Memᴰ·tail n) = absurd (omega (arith, all-at a n, all-at b m))
+same-first a b (List·Memᴰ·tail m) (List·Memᴰ·tail n) = absurd (omega (arith, all-member a n, all-member b m))
 
 past-first : {r y : Row} {ys : List Row} → y .train .0 < r .train .0 → Mem r (y ∷ ys) → Mem r ys
 past-first h (List·Memᴰ·head e) = absurd (omega (arith, ap (λ r. r .train .0) e))
@@ -201,8 +105,8 @@ same-members (r-more {r = x} a c) (r-more {r = y} b d) f g =
     let n : x .train .0 ≡ y .train .0 = ap (λ r. r .train .0) e in
     ap₂ (λ u v. u ∷ v) e
     (same-members c d
-    (λ r m. past-first (omega (arith, n, all-at a m)) (f r (List·Memᴰ·tail m)))
-    (λ r m. past-first (omega (arith, n, all-at b m)) (g r (List·Memᴰ·tail m))))
+    (λ r m. past-first (omega (arith, n, all-member a m)) (f r (List·Memᴰ·tail m)))
+    (λ r m. past-first (omega (arith, n, all-member b m)) (g r (List·Memᴰ·tail m))))
 
 -- ---- a row inserted into, or a train removed from, the rows that pass a test
 inserted-first : (r : Row) {rs : List Row} → Above (r .train .0) rs → row-inserted r rs ≡ r ∷ rs
@@ -305,7 +209,7 @@ all-rows-of (more {x = e} h a) = all-inserted (row-for e) h (all-rows-of a)
 
 -- each row is the row of an entry
 pub row-has-entry : {r : Row} (es : List Entry) → Mem r (rows-of es) → (e : Entry) × Mem e es × (row-for e ≡ r)
-row-has-entry es m = all-at {P = λ r. (e : Entry) × Mem e es × (row-for e ≡ r)} (all-rows-of (all-members es λ e n. (e, n, refl))) m
+row-has-entry es m = all-member {P = λ r. (e : Entry) × Mem e es × (row-for e ≡ r)} (all-rows-of (all-members es λ e n. (e, n, refl))) m
 
 pub inserted-member : (r : Row) (rs : List Row) → Mem r (row-inserted r rs)
 unfolding row-inserted
@@ -330,7 +234,7 @@ pub entry-has-row : {e : Entry} {es : List Entry} → Apart es → Mem e es → 
 unfolding rows-of
 entry-has-row d (List·Memᴰ·head {x = x} {xs = xs} q) = Memᴰ·cast (ap row-for q) (inserted-member (row-for x) (rows-of xs))
 entry-has-row d (List·Memᴰ·tail {x = x} {xs = xs} m) =
-    inserted-keeps (row-for x) (all-at (all-unmapped _ xs (first-apart d)) m) (entry-has-row (rest-apart d) m)
+    inserted-keeps (row-for x) (all-member (all-unmapped _ xs (first-apart d)) m) (entry-has-row (rest-apart d) m)
 
 -- to keep by a test of the row, before or after the rows are made, is the same
 pub rows-of-keep : (f : Row → Bool) (es : List Entry) → Apart es → rows-of (keep (λ e. f (row-for e)) es) ≡ keep f (rows-of es)

@@ -15,7 +15,9 @@ use Rattle.rules.specs.Boards.{is-open, told, untold}
 use Rattle.rules.specs.Sound.{rule5}
 use Rattle.rules.specs.laws.Tests.{each, either, and-left, and-right}
 use Rattle.rules.specs.laws.Lists.{distinct-holds}
-use Rattle.rules.specs.laws.Rows.{Mem, RowsAscend, Apart, kept, keeps, keep-both, keep-inserted, keep-inserted-not, keep-removed, rows-of-ascend, rows-of-keep, row-has-entry, entry-has-row}
+use Rattle.rules.specs.laws.Rows.{RowsAscend, Apart, keep-inserted, keep-inserted-not, keep-removed, rows-of-ascend, rows-of-keep, row-has-entry, entry-has-row}
+use Rattle.rules.specs.laws.All.{Mem}
+use Rattle.rules.specs.laws.Kept.{kept, keep-both, keeps}
 
 -- the live list has each train at most once, in ascending order
 pub live-ascends : (s : Store) → RowsAscend (live s)
