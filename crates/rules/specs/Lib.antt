@@ -12,3 +12,4 @@ pub mod Numbers
 pub mod Steps
 pub mod Calls
 pub mod laws
+pub mod Views
