@@ -15,6 +15,10 @@ either P false h k = k refl
 pub not-both : (b : Bool) → b ≡ true → b ≡ false → ⊥
 not-both b e f = true≢false (sym e ∙ f)
 
+pub not-fails : (b : Bool) → (b ≡ false → ⊥) → b ≡ true
+not-fails true h = refl
+not-fails false h = absurd (h refl)
+
 pub and-left : (a b : Bool) → (a && b) ≡ true → a ≡ true
 and-left true b e = refl
 and-left false b e = e
