@@ -13,3 +13,4 @@ pub mod Steps
 pub mod Calls
 pub mod laws
 pub mod Views
+pub mod theorems

@@ -1,0 +1,2 @@
+-- What is shown of the rules as a whole.
+pub mod Fresh
