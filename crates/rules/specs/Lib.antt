@@ -12,6 +12,7 @@ pub mod Numbers
 pub mod Steps
 pub mod Calls
 pub mod laws
+pub mod Views
 pub mod theorems
 pub mod Text
 pub mod Examples

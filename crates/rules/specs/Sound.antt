@@ -167,16 +167,12 @@ rule6 s =
 
 -- ---- rule 7: a leaf's mark is 1 to the next stamp, an inner page's is 0; no obsolete entry stands in a leaf whose mark is above
 -- its slot's stamp
-unfoldable pub marked-within : LookUp → Stamp → Bool
-marked-within Absent mark = true
-marked-within (Found place latest old) mark = leb (mark .0) (latest .0)
-
 unfoldable pub leaf-marked : Store → Page → Bool
 leaf-marked s g =
     all-of
     (leb 1 (g .mark .0)
     ∷ leb (g .mark .0) (s .next .0)
-    ∷ every (λ e. is-latest (s .memo) e || marked-within (look-up (train-of e) (s .memo)) (g .mark)) (g .places)
+    ∷ every (λ e. is-latest (s .memo) e || not-above (look-up (train-of e) (s .memo)) (g .mark)) (g .places)
     ∷ [])
 
 unfoldable pub rule7 : Store → Bool
@@ -206,5 +202,5 @@ sound-words w = same-words (words (store-of w)) w && sound (store-of w)
 
 -- a proof that says `unfolding sound-open` sees through every definition of this file
 unfoldable pub sound-open : Unit {0}
-unfolding sizes-in-range header-in-range page-in-range entry-in-range memo-in-range board-in-range in-range reached levelled rule1 filled rule2 same-box rule3 rule4 not-above rule5 obsolete-of rule6 marked-within leaf-marked rule7 same-rows rule8 sound sound-words
+unfolding sizes-in-range header-in-range page-in-range entry-in-range memo-in-range board-in-range in-range reached levelled rule1 filled rule2 same-box rule3 rule4 not-above rule5 obsolete-of rule6 leaf-marked rule7 same-rows rule8 sound sound-words
 sound-open = tt

@@ -1,3 +1,4 @@
 -- What the definitions were made to give: the promises that a reader is asked to believe.
-pub mod Query
 pub mod WordsAndBack
+pub mod Fresh
+pub mod Query

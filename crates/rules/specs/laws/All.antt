@@ -37,6 +37,13 @@ unfolding every
 all-every f none = refl
 all-every f (more h a) = and-both h (all-every f a)
 
+-- where each element's test stands for a fact
+pub every-holds : {A : Type 0} {P : A → Type 0} (f : A → Bool) (xs : List A) → ((x : A) → f x ≡ true → P x) → every f xs ≡ true → All P xs
+every-holds f xs h e = all-map (every-all f xs e) h
+
+pub every-test : {A : Type 0} {P : A → Type 0} (f : A → Bool) {xs : List A} → ((x : A) → P x → f x ≡ true) → All P xs → every f xs ≡ true
+every-test f h a = all-every f (all-map a h)
+
 -- ---- in lists that are made of others
 pub all-append : {A : Type 0} {P : A → Type 0} {a b : List A} → All P a → All P b → All P (a ++ b)
 all-append none k = k

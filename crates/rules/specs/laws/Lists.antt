@@ -1,14 +1,34 @@
--- Laws of the tests on lists of numbers.
-use Prim.Native.Nat.{ℕ, _<_}
+-- Laws of lists of numbers, and of the tests on them.
+use Prim.Native.Nat.{ℕ, zero, suc, _<_, _≤_, _+_}
 use native.Mathlib.Omega.{arith}
-use mathlib.Core.Path.{_≡_, refl, ap₂}
+use mathlib.Core.Path.{_≡_, refl, sym, subst, ap₂}
 use mathlib.Core.Bool.{Bool, true, false, _||_, false≢true}
 use mathlib.Core.List.{List, [], _∷_}
 use lib.Dec.{eqb, ltb}
-use borrow.Author.Tests.{ltb-true, ltb-false, lt-ltb, eqb-true, eq-eqb}
-use Rattle.rules.specs.Lists.{every, distinct, ascending, same-words}
+use lib.ListN.{length, replicate}
+use borrow.Author.Tests.{ltb-true, ltb-false, lt-ltb, eqb-true, eqb-false, eq-eqb}
+use Rattle.rules.specs.Lists.{every, from, distinct, ascending, same-words}
 use Rattle.rules.specs.laws.Tests.{and-left, and-right, and-both}
-use Rattle.rules.specs.laws.All.{All, all-map, every-all, all-every}
+use Rattle.rules.specs.laws.All.{All, none, more, head-of, tail-of, all-map, every-all, all-every}
+
+pub length-zero : {A : Type 0} (xs : List A) → length xs ≡ 0 → xs ≡ []
+length-zero [] e = refl
+length-zero (x ∷ xs) e = absurd (omega arith)
+
+-- ---- what holds of the numbers from n, k of them
+pub all-from : {P : ℕ → Type 0} (n k : ℕ) → All P (from n k) → (i : ℕ) → n ≤ i → i < n + k → P i
+unfolding from
+all-from n zero a i low high = absurd (omega arith)
+all-from {P} n (suc k) a i low high = go (eqb i n) refl (λ lower. all-from (suc n) k (tail-of a) i lower (omega arith))
+  where
+    go : (b : Bool) → eqb i n ≡ b → (n < i → P i) → P i
+    go true e later = subst P (sym (eqb-true i n e)) (head-of a)
+    go false e later = later (omega (arith, eqb-false i n e))
+
+pub from-all : {P : ℕ → Type 0} (n k : ℕ) → ((i : ℕ) → n ≤ i → i < n + k → P i) → All P (from n k)
+unfolding from
+from-all n zero h = none
+from-all n (suc k) h = more (h n (omega arith) (omega arith)) (from-all (suc n) k λ i low high. h i (omega arith) (omega arith))
 
 -- ---- the same words
 pub same-words-equal : (xs ys : List ℕ) → same-words xs ys ≡ true → xs ≡ ys
@@ -23,6 +43,12 @@ pub same-words-self : (xs : List ℕ) → same-words xs xs ≡ true
 unfolding same-words
 same-words-self [] = refl
 same-words-self (x ∷ xs) = and-both (eq-eqb x x refl) (same-words-self xs)
+
+-- words that are all zero
+pub zeros : (ws : List ℕ) → every (λ n. eqb n 0) ws ≡ true → ws ≡ replicate (length ws) 0
+unfolding every
+zeros [] e = refl
+zeros (w ∷ ws) e = ap₂ (λ u v. u ∷ v) (eqb-true w 0 (and-left (eqb w 0) _ e)) (zeros ws (and-right (eqb w 0) _ e))
 
 -- ---- no two equal
 pub data Distinct : List ℕ → Type 0 where
