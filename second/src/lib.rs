@@ -12,5 +12,6 @@ pub mod page;
 pub mod places;
 pub mod steps;
 pub mod store;
+pub mod text;
 pub mod tree;
 pub mod words;
