@@ -4,6 +4,7 @@
 //! makes words only at the edge, so that it shares no arrangement with what it is held against.
 
 pub mod boards;
+pub mod check;
 pub mod clean;
 pub mod counts;
 pub mod geometry;
