@@ -8,6 +8,7 @@ pub mod check;
 pub mod clean;
 pub mod counts;
 pub mod geometry;
+pub mod make;
 pub mod memo;
 pub mod page;
 pub mod places;
