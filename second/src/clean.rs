@@ -79,11 +79,21 @@ impl Tree {
             self.free.give_back(page);
             *self.happenings.thin.entry(level).or_default() += 1;
         }
-        for load in cleaning.to_put_back {
-            self.put(load);
-        }
+        self.put_back(cleaning.to_put_back);
         self.let_root_give_way();
         cleaning.removed
+    }
+
+    fn put_back(&mut self, loads: Vec<Load>) {
+        let before = self.happenings.root_splits;
+        for load in loads {
+            let new_root = self.happenings.root_splits > before;
+            if new_root && matches!(load, Load::Page(..)) {
+                self.happenings.pages_under_new_root += 1;
+            }
+            self.put(load);
+        }
+        self.happenings.root_splits_by_clean += self.happenings.root_splits - before;
     }
 
     /// An inner root with one child gives way to it.

@@ -12,6 +12,10 @@ pub struct Happenings {
     pub most_levels: u32,
     pub root_splits: u32,
     pub root_collapses: u32,
+    /// Splits of the root while a clean put things back.
+    pub root_splits_by_clean: u32,
+    /// Child pages put back after such a split, so under more levels than they came from.
+    pub pages_under_new_root: u32,
     /// Pages freed because they were thin, by level; level 1 is that of the leaves.
     pub thin: BTreeMap<u32, u32>,
 }

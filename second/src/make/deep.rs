@@ -1,8 +1,9 @@
 //! The largest store, filled with so many trains that the tree gets four levels.
 
+use super::packed::pack_inner_pages;
 use super::random::Random;
 use super::script::Script;
-use crate::geometry::LAST_METRE;
+use crate::geometry::{Window, LAST_METRE};
 
 /// How the boxes of an input lie.
 #[derive(Clone, Copy)]
@@ -12,16 +13,18 @@ enum Lie {
     AllSizes,
     LineAlongX,
     LineAlongY,
+    FlatLine,
     Grid,
     Clusters,
 }
 
-const LIES: [Lie; 7] = [
+const LIES: [Lie; 8] = [
     Lie::Points,
     Lie::SmallBoxes,
     Lie::AllSizes,
     Lie::LineAlongX,
     Lie::LineAlongY,
+    Lie::FlatLine,
     Lie::Grid,
     Lie::Clusters,
 ];
@@ -29,30 +32,63 @@ const LIES: [Lie; 7] = [
 pub fn make(random: &mut Random, steps: usize) -> Script {
     let boards = random.within(0..=4);
     let mut script = Script::new([192, 1024, boards], steps);
-    let main_lie = random.pick(&LIES);
+    let lie = random.pick(&LIES);
+    // One input in three stops growing at four levels and then keeps changing.
+    let enough = if random.once_in(3) { 150 } else { 570 };
+    if random.once_in(4) {
+        pack_inner_pages(random, &mut script);
+    }
     let mut trains = 0;
     while !script.is_full() {
-        let lie = if random.once_in(8) {
-            random.pick(&LIES)
-        } else {
-            main_lie
-        };
+        let tree = &script.store.tree;
+        if tree.held() >= enough && tree.levels == 4 {
+            change(random, &mut script);
+        }
+        if random.once_in(10) {
+            any_step(random, &mut script, trains);
+            continue;
+        }
+        let lie = random.pick(&[lie, lie, lie, lie, lie, lie, Lie::Points, Lie::AllSizes]);
+        trains += 1;
         let sides = sides_of(random, lie, trains);
-        let known = random.within(1..=trains.max(1));
-        match random.within(1..=100) {
-            1..=4 => script.report(known, sides),
-            5 => script.withdraw(known),
-            6..=8 => script.clean(),
-            9 => script.inspect(),
-            10 => script.open(random.within(0..=4), small_window(random)),
-            11 => script.close(random.within(0..=4)),
-            _ => {
-                trains += 1;
-                script.report(spread(trains), sides)
-            }
-        };
+        script.report(spread(trains), sides);
     }
     script
+}
+
+/// A step of any kind on one of the trains seen so far.
+fn any_step(random: &mut Random, script: &mut Script, trains: u32) {
+    let train = spread(random.within(1..=trains.max(1)));
+    let board = random.within(0..=4);
+    match random.within(1..=10) {
+        1..=3 => script.report(train, sides_of(random, Lie::SmallBoxes, 0)),
+        4 => script.withdraw(train),
+        5 | 6 => script.clean(),
+        7 => script.inspect(),
+        8 => script.close(board),
+        _ => script.open(board, small_window(random)),
+    };
+}
+
+/// Takes a run of neighbouring trains away or moves them, then cleans.
+fn change(random: &mut Random, script: &mut Script) {
+    let live = script.store.query(Window::WHOLE_MAP);
+    let mut live: Vec<_> = live.iter().map(|(t, b)| (b.sides(), t.0)).collect();
+    live.sort();
+    let first = random.within(0..=live.len() as u32) as usize;
+    let length = random.within(1..=40) as usize;
+    let moves = random.once_in(2);
+    for &(_, train) in live.iter().skip(first).take(length) {
+        if moves {
+            let lie = random.pick(&LIES);
+            script.report(train, sides_of(random, lie, train % 500));
+        } else {
+            script.withdraw(train);
+        }
+    }
+    for _ in 0..random.within(1..=40) {
+        script.clean();
+    }
 }
 
 /// Train numbers all over their range, in no order, the first ones small.
@@ -80,8 +116,9 @@ fn sides_of(random: &mut Random, lie: Lie, index: u32) -> [u32; 4] {
         Lie::Points => [x, y, x, y],
         Lie::SmallBoxes => grown([x, y], [size, size / 3]),
         Lie::AllSizes => random.sides(0..=LAST_METRE),
-        Lie::LineAlongX => [ahead, 5, ahead, 5],
+        Lie::LineAlongX => grown([ahead, 5], [30, 30]),
         Lie::LineAlongY => grown([size, ahead], [size, size]),
+        Lie::FlatLine => [ahead, 5, ahead, 5],
         Lie::Grid => grown([x / 65_536 * 65_536, y / 65_536 * 65_536], [65_536, 65_536]),
         Lie::Clusters => {
             let home = index % 7 * 149_000;

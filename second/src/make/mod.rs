@@ -4,6 +4,7 @@ mod boards;
 mod cleaning;
 mod damage;
 mod deep;
+mod packed;
 mod random;
 mod script;
 mod tiny;
