@@ -2,13 +2,13 @@
 
 use super::expected::expected_number;
 use super::reading::{demand, meets, Held, Kind, Reading, Sides, SlotWords};
-use super::Done;
+use super::{Done, Snapshot};
 use std::collections::{BTreeMap, BTreeSet};
 
 /// The words before and after a step, each with its reading.
 pub struct Change<'a> {
-    pub before: Reading,
-    pub after: Reading,
+    pub before: &'a Reading,
+    pub after: &'a Reading,
     words_before: &'a [u32],
     words_after: &'a [u32],
     done: Done,
@@ -25,15 +25,16 @@ pub fn test_fresh(words: &[u32]) -> Result<(), String> {
 }
 
 /// Tests number, count and every change of a step; `after` is already known to be sound.
-pub fn test_changes(before: &[u32], after: &[u32], done: Done) -> Result<(), String> {
+pub fn test_changes(before: &Snapshot, after: &Snapshot, done: Done) -> Result<(), String> {
     let change = Change {
-        before: Reading::of(before)?,
-        after: Reading::of(after)?,
-        words_before: before,
-        words_after: after,
+        before: &before.reading,
+        after: &after.reading,
+        words_before: &before.words,
+        words_after: &after.words,
         done,
     };
-    let number = expected_number(&change.before, done.step);
+    let (before, after) = (change.words_before, change.words_after);
+    let number = expected_number(change.before, done.step);
     demand(done.number == number, || {
         format!("number {} instead of {number}", done.number)
     })?;
@@ -173,10 +174,10 @@ impl Change<'_> {
         let marks = |reading: &Reading, number: u32| reading.pages[number as usize].mark;
         let mut marks_after = BTreeMap::new();
         for (number, entry) in self.after.held() {
-            marks_after.insert(entry.stamp, marks(&self.after, number));
+            marks_after.insert(entry.stamp, marks(self.after, number));
         }
         for (number, entry) in self.before.held() {
-            let mark = marks(&self.before, number);
+            let mark = marks(self.before, number);
             let kept = marks_after.get(&entry.stamp).is_none_or(|&m| m == mark);
             demand(kept || cleaned == Some(number), || {
                 format!("stamp {} stands under another mark", entry.stamp)

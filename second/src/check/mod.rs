@@ -33,21 +33,34 @@ pub struct Done {
     pub count: u32,
 }
 
+/// The words of a store with their reading.
+#[derive(Default)]
+pub struct Snapshot {
+    pub words: Vec<u32>,
+    pub reading: Reading,
+}
+
+impl Snapshot {
+    pub fn of(words: Vec<u32>) -> Result<Snapshot, String> {
+        let reading = Reading::of(&words)?;
+        Ok(Snapshot { words, reading })
+    }
+}
+
 /// Holds every step of a run against the rules.
 #[derive(Default)]
 pub struct Checker {
-    words: Vec<u32>,
+    last: Snapshot,
     reported: Reported,
 }
 
 impl Watcher for Checker {
     fn started(&mut self, store: &Store) -> Result<(), String> {
-        self.words = words_of(store);
+        self.last = Snapshot::of(words_of(store))?;
         self.reported.clear();
-        let reading = Reading::of(&self.words)?;
-        test_sound(&reading)?;
-        changes::test_fresh(&self.words)?;
-        test_queries(&reading, &self.reported, store)
+        test_sound(&self.last.reading)?;
+        changes::test_fresh(&self.last.words)?;
+        test_queries(&self.last.reading, &self.reported, store)
     }
 
     fn stepped(&mut self, store: &Store, words: [u32; 6], answer: Answer) -> Result<(), String> {
@@ -56,21 +69,19 @@ impl Watcher for Checker {
             number: answer.number,
             count: answer.count,
         };
-        let after = words_of(store);
-        test_step(&self.words, &after, done)?;
+        let after = Snapshot::of(words_of(store))?;
+        test_step(&self.last, &after, done)?;
         note(&mut self.reported, done);
-        let reading = Reading::of(&after)?;
-        test_demands(&reading, &self.reported)?;
-        test_queries(&reading, &self.reported, store)?;
-        self.words = after;
+        test_demands(&after.reading, &self.reported)?;
+        test_queries(&after.reading, &self.reported, store)?;
+        self.last = after;
         Ok(())
     }
 }
 
 /// Tests the words after a step: sound, and differing from those before as the step says.
-pub fn test_step(before: &[u32], after: &[u32], done: Done) -> Result<(), String> {
-    let reading = Reading::of(after)?;
-    test_sound(&reading)?;
+pub fn test_step(before: &Snapshot, after: &Snapshot, done: Done) -> Result<(), String> {
+    test_sound(&after.reading)?;
     changes::test_changes(before, after, done)
 }
 

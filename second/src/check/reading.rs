@@ -45,7 +45,7 @@ pub struct SlotWords {
 }
 
 /// All that the words of a store say.
-#[derive(Debug)]
+#[derive(Debug, Default)]
 pub struct Reading {
     pub next_stamp: u32,
     pub root: u32,

@@ -6,9 +6,8 @@ use std::collections::{BTreeMap, BTreeSet};
 /// Tests rules 1 to 8; complains with the rule's number.
 pub fn test_sound(reading: &Reading) -> Result<(), String> {
     test_reach(reading)?;
-    for (number, page) in (0..).zip(&reading.pages) {
-        test_page(reading, number, page)?;
-    }
+    test_place_counts(reading)?;
+    test_inner_pages(reading)?;
     test_held(reading)?;
     test_latest(reading)?;
     test_slots(reading)?;
@@ -45,28 +44,34 @@ fn test_reach(reading: &Reading) -> Result<(), String> {
     Ok(())
 }
 
-/// Rules 2 and 3 and the mark of an inner page.
-fn test_page(reading: &Reading, number: u32, page: &PageWords) -> Result<(), String> {
-    let fewest = match (page.kind, number == reading.root) {
-        (Kind::Free, _) => return Ok(()),
-        (_, false) => 4,
-        (Kind::Inner, true) => 2,
-        (Kind::Leaf, true) => 0,
-    };
-    demand(page.places.len() >= fewest, || {
-        format!("rule 2: page {number} has too few places")
-    })?;
-    if page.kind == Kind::Leaf {
-        return Ok(());
-    }
-    demand(page.mark == 0, || {
-        format!("rule 7: inner page {number} has a mark")
-    })?;
-    for &[x0, y0, x1, y1, child, _] in &page.places {
-        let cover = smallest_cover(&reading.pages[child as usize]);
-        demand(cover == Some([x0, y0, x1, y1]), || {
-            format!("rule 3: page {number} has a wrong box for page {child}")
+/// Rule 2: no page has too few places; the layout allows no more than 8.
+fn test_place_counts(reading: &Reading) -> Result<(), String> {
+    for (number, page) in (0..).zip(&reading.pages) {
+        let fewest = match (page.kind, number == reading.root) {
+            (Kind::Free, _) | (Kind::Leaf, true) => 0,
+            (Kind::Inner, true) => 2,
+            (_, false) => 4,
+        };
+        demand(page.places.len() >= fewest, || {
+            format!("rule 2: page {number} has too few places")
         })?;
+    }
+    Ok(())
+}
+
+/// Rule 3, and the part of rule 7 on the mark of an inner page.
+fn test_inner_pages(reading: &Reading) -> Result<(), String> {
+    let pages = reading.pages.iter().enumerate();
+    for (number, page) in pages.filter(|(_, page)| page.kind == Kind::Inner) {
+        demand(page.mark == 0, || {
+            format!("rule 7: inner page {number} has a mark")
+        })?;
+        for &[x0, y0, x1, y1, child, _] in &page.places {
+            let cover = smallest_cover(&reading.pages[child as usize]);
+            demand(cover == Some([x0, y0, x1, y1]), || {
+                format!("rule 3: page {number} has a wrong box for page {child}")
+            })?;
+        }
     }
     Ok(())
 }

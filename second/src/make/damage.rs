@@ -14,7 +14,7 @@ enum Damage {
     Text(fn(&mut Random, &mut Vec<u8>)),
 }
 
-const DAMAGES: [Damage; 23] = [
+const DAMAGES: [Damage; 24] = [
     Damage::Line(|_, line| line.clear()),
     Damage::Line(|_, line| line.push(b' ')),
     Damage::Line(|_, line| line.insert(0, b' ')),
@@ -36,18 +36,23 @@ const DAMAGES: [Damage; 23] = [
     Damage::Text(|_, text| text.clear()),
     Damage::Text(|_, text| text.truncate(text.len() - 1)),
     Damage::Text(refuse_start),
-    Damage::Text(lengthen),
+    Damage::Text(|random, text| lengthen(random, text, 0)),
+    Damage::Text(|random, text| {
+        let over = random.pick(&[1, 2, 5_000]);
+        lengthen(random, text, over);
+    }),
     Damage::Text(end_blank),
 ];
 
-pub fn make(random: &mut Random, steps: usize) -> Vec<u8> {
+/// A damaged text; seeds in a row go through the kinds of damage.
+pub fn make(random: &mut Random, seed: u64, steps: usize) -> Vec<u8> {
     let counts = [random.within(1..=12), random.within(1..=40), 3];
     let mut script = Script::new(counts, steps);
     while !script.is_full() {
         mixed_step(random, &mut script, 12);
     }
     let mut text = script.text().into_bytes();
-    match random.pick(&DAMAGES) {
+    match DAMAGES[(seed % DAMAGES.len() as u64) as usize] {
         Damage::Text(damage) => damage(random, &mut text),
         Damage::Line(damage) => text = with_damaged_line(random, &text, damage),
     }
@@ -115,10 +120,9 @@ fn refuse_start(random: &mut Random, text: &mut Vec<u8>) {
     *text = format!("{counts}{tail}").into_bytes();
 }
 
-/// Fills the text up with leading zeros to just within or just over the limit.
-fn lengthen(random: &mut Random, text: &mut Vec<u8>) {
-    let goal = MOST_BYTES + random.pick(&[0, 1, 2, 5_000]);
-    let zeros = vec![b'0'; goal.saturating_sub(text.len())];
+/// Fills the text up with leading zeros to the limit and so many bytes over it.
+fn lengthen(random: &mut Random, text: &mut Vec<u8>, over: usize) {
+    let zeros = vec![b'0'; (MOST_BYTES + over).saturating_sub(text.len())];
     put_before_number(random, text, &zeros);
 }
 

@@ -69,7 +69,7 @@ pub fn make(profile: Profile, seed: u64, steps: usize) -> Vec<u8> {
         Profile::Cleaning => cleaning::make(&mut random, steps),
         Profile::Boards => boards::make(&mut random, steps),
         Profile::Wild => wild::make(&mut random, steps),
-        Profile::Text => return damage::make(&mut random, steps),
+        Profile::Text => return damage::make(&mut random, seed, steps),
     }
     .text()
     .into_bytes()
