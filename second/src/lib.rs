@@ -12,6 +12,7 @@ pub mod make;
 pub mod memo;
 pub mod page;
 pub mod places;
+pub mod runs;
 pub mod steps;
 pub mod store;
 pub mod text;

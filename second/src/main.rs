@@ -2,6 +2,7 @@
 
 use second::check::Checker;
 use second::make::{make, Profile};
+use second::runs::runs;
 use second::text::{perform, Ending, NoWatcher, Transcript, MOST_BYTES};
 use second::words::words_of;
 use std::io::{self, Read, Write};
@@ -17,6 +18,7 @@ second --check   the same output; test every step against the rules, and on
 second --make PROFILE SEED [STEPS]
                  print a made input; PROFILE is one of tiny, deep, cleaning,
                  boards, wild, text; SEED and STEPS are decimals
+second --runs    print the long runs that the definitions are held to
 second --help    print this text
 ";
 
@@ -26,6 +28,7 @@ enum Command {
     Words,
     Check,
     Make(Profile, u64, usize),
+    Runs,
     Help,
 }
 
@@ -35,6 +38,7 @@ impl Command {
             [] => Ok(Command::Run),
             ["--words"] => Ok(Command::Words),
             ["--check"] => Ok(Command::Check),
+            ["--runs"] => Ok(Command::Runs),
             ["--help"] => Ok(Command::Help),
             ["--make", profile, seed] => Command::read_make(profile, seed, None),
             ["--make", profile, seed, steps] => Command::read_make(profile, seed, Some(steps)),
@@ -79,6 +83,7 @@ fn obey(command: Command) -> io::Result<ExitCode> {
     match command {
         Command::Help => print(HELP.as_bytes())?,
         Command::Make(profile, seed, steps) => print(&make(profile, seed, steps))?,
+        Command::Runs => print(runs().as_bytes())?,
         Command::Run => {
             let transcript = perform(&read_input()?, &mut NoWatcher);
             print(transcript.output.as_bytes())?;

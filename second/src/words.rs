@@ -51,6 +51,25 @@ pub fn words_of(store: &Store) -> Vec<u32> {
     words
 }
 
+/// Header, pages, memo and boards, each with the place of its first word and up to its last word that isn't zero.
+pub fn parts_of(store: &Store) -> Vec<(usize, Vec<u32>)> {
+    let words = words_of(store);
+    let layout = Layout::of(store.shape);
+    let pages = (HEADER..layout.memo).step_by(PAGE);
+    let boards = (layout.boards..layout.end).step_by(BOARD);
+    let mut starts = vec![0];
+    starts.extend(pages.chain([layout.memo]).chain(boards));
+    let ends = starts.iter().copied().skip(1).chain([layout.end]);
+    let parts = starts.iter().copied().zip(ends);
+    parts
+        .filter_map(|(start, end)| {
+            let part = &words[start..end];
+            let last = part.iter().rposition(|&word| word != 0)?;
+            Some((start, part[..=last].to_vec()))
+        })
+        .collect()
+}
+
 fn write_header(store: &Store, layout: &Layout, words: &mut [u32]) {
     words[..10].copy_from_slice(&[
         1,

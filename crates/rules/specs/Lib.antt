@@ -16,3 +16,4 @@ pub mod Views
 pub mod theorems
 pub mod Text
 pub mod Examples
+pub mod Runs
