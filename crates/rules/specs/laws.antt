@@ -4,6 +4,8 @@ pub mod All
 pub mod Lists
 pub mod Order
 pub mod Kept
+pub mod Boxes
 pub mod Rows
 pub mod Words
+pub mod Header
 pub mod Parts
