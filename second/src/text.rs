@@ -76,11 +76,8 @@ fn run_lines(
     for (number, line) in lines {
         let words = numbers(line).ok_or_else(|| bad_line(number, output))?;
         let answer = store.step(words);
-        let Answer {
-            number: refusal,
-            count,
-        } = answer;
-        print(output, format_args!("{} {refusal} {count}", words[0]));
+        let [kind, told, count] = [words[0], answer.number, answer.count];
+        print(output, format_args!("{kind} {told} {count}"));
         complain_at(number, watcher.stepped(&store, words, answer))?;
     }
     Ok(store)

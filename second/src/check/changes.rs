@@ -3,7 +3,7 @@
 use super::expected::expected_number;
 use super::reading::{demand, meets, Held, Kind, Reading, Sides, SlotWords};
 use super::{Done, Snapshot};
-use std::collections::{BTreeMap, BTreeSet};
+use std::collections::BTreeMap;
 
 /// The words before and after a step, each with its reading.
 pub struct Change<'a> {
@@ -79,7 +79,7 @@ impl Change<'_> {
         self.same("a page", 16, self.memo_at())
     }
 
-    pub fn same_memo(&self) -> Result<(), String> {
+    fn same_memo(&self) -> Result<(), String> {
         self.same("the memo", self.memo_at(), self.boards_at())
     }
 
@@ -95,13 +95,13 @@ impl Change<'_> {
         let [_, train, sides @ ..] = self.done.step;
         self.test_stamp_taken(train)?;
         let stamp = self.before.next_stamp;
-        let mut held: BTreeSet<Held> = self.before.held_sorted().into_iter().collect();
+        let mut held = self.before.held_set();
         held.insert(Held {
             train,
             stamp,
             sides,
         });
-        demand(self.after.held_sorted().into_iter().eq(held), || {
+        demand(self.after.held_set() == held, || {
             "held entries are not those before and the new one".into()
         })?;
         self.test_marks(None)?;

@@ -117,10 +117,9 @@ impl Reading {
             .flat_map(|(number, leaf)| leaf.entries().map(move |entry| (number, entry)))
     }
 
-    /// Held entries in an order that does not depend on the arrangement of pages.
-    pub fn held_sorted(&self) -> Vec<Held> {
-        let held: BTreeSet<Held> = self.held().map(|(_, entry)| entry).collect();
-        held.into_iter().collect()
+    /// Held entries without the pages they stand in.
+    pub fn held_set(&self) -> BTreeSet<Held> {
+        self.held().map(|(_, entry)| entry).collect()
     }
 
     pub fn is_latest(&self, entry: &Held) -> bool {

@@ -8,28 +8,28 @@ impl Change<'_> {
     pub fn test_clean(&self) -> Result<(), String> {
         self.same_stamp()?;
         self.same_boards()?;
-        demand(
-            self.before.latest_boxes() == self.after.latest_boxes(),
-            || "the latest entries change".into(),
-        )?;
-        let leaves = self
-            .before
-            .leaves()
-            .map(|(number, leaf)| (leaf.mark, number));
-        let (_, chosen) = leaves.min().ok_or("there is no leaf")?;
+        self.same_latest()?;
+        let leaves = self.before.leaves();
+        let chosen = leaves.map(|(number, leaf)| (leaf.mark, number)).min();
+        let (_, chosen) = chosen.ok_or("there is no leaf")?;
         let gone = |entry: &Held| !self.before.is_latest(entry);
         let (removed, kept): (Vec<_>, Vec<_>) = self
             .before
             .held()
             .partition(|(number, entry)| *number == chosen && gone(entry));
         let kept: BTreeSet<Held> = kept.into_iter().map(|(_, entry)| entry).collect();
-        demand(self.after.held_sorted().into_iter().eq(kept), || {
+        demand(self.after.held_set() == kept, || {
             format!("clean does not remove just the obsolete entries of leaf {chosen}")
         })?;
         self.test_memo(&self.lowered(removed.iter().map(|(_, entry)| entry.train)))?;
         self.test_cleaned_leaf(chosen, removed.len())?;
         self.test_marks(Some(chosen))?;
         self.test_count(removed.len())
+    }
+
+    fn same_latest(&self) -> Result<(), String> {
+        let (before, after) = (self.before.latest_boxes(), self.after.latest_boxes());
+        demand(before == after, || "the latest entries change".into())
     }
 
     /// The memo before with one old entry less for each of these trains.
@@ -45,7 +45,7 @@ impl Change<'_> {
     }
 
     /// A leaf that stays has the new mark and its entries in order; else no leaf has it anew.
-    pub fn test_cleaned_leaf(&self, chosen: u32, removed: usize) -> Result<(), String> {
+    fn test_cleaned_leaf(&self, chosen: u32, removed: usize) -> Result<(), String> {
         let before = &self.before.pages[chosen as usize];
         let after = &self.after.pages[chosen as usize];
         let left = before.places.len() - removed;
@@ -82,10 +82,7 @@ impl Change<'_> {
         self.same_stamp()?;
         self.same_pages()?;
         self.same_boards()?;
-        demand(
-            self.before.latest_boxes() == self.after.latest_boxes(),
-            || "the latest entries change".into(),
-        )?;
+        self.same_latest()?;
         let smallest = self.before.smallest_mark();
         let mut slots = self.before.slots.clone();
         slots.retain(|_, slot| slot.stamp >= smallest);
