@@ -1,6 +1,7 @@
 -- What holds of every element of a list, and the tests that ask for it.
 use Prim.Native.Nat.{ℕ, zero, suc, _<_}
-use mathlib.Core.Path.{_≡_, refl, sym, ap₂}
+use native.Mathlib.Omega.{arith}
+use mathlib.Core.Path.{_≡_, refl, sym, _∙_, ap, ap₂}
 use mathlib.Core.Bool.{Bool, true, false}
 use mathlib.Core.List.{List, [], _∷_, _++_, map, flatMap, List·Memᴰ, List·Memᴰ·head, append-assoc, List·Memᴰ·tail}
 use native.Mathlib.Nat.{not-suc-le-zero, le-of-suc-le-suc}
@@ -90,6 +91,12 @@ unfolding flatMap
 flat-append f [] ys = refl
 flat-append f (x ∷ xs) ys = rw (flat-append f xs ys) (sym (append-assoc (f x) (flatMap f xs) (flatMap f ys)))
 
+-- what is gathered from what was gathered is gathered at once
+pub flat-flat : {A B C : Type 0} (f : B → List C) (g : A → List B) (xs : List A) → flatMap f (flatMap g xs) ≡ flatMap (λ x. flatMap f (g x)) xs
+unfolding flatMap
+flat-flat f g [] = refl
+flat-flat f g (x ∷ xs) = flat-append f (g x) (flatMap g xs) ∙ ap (λ r. flatMap f (g x) ++ r) (flat-flat f g xs)
+
 -- ---- where all agree
 pub flat-cong : {A B : Type 0} (f g : A → List B) {xs : List A} → All (λ x. f x ≡ g x) xs → flatMap f xs ≡ flatMap g xs
 unfolding flatMap
@@ -110,6 +117,10 @@ pub all-at : {A : Type 0} {P : A → Type 0} {xs : List A} → All P xs → (i :
 all-at none i d h = absurd (not-suc-le-zero h)
 all-at (more p a) zero d h = p
 all-at (more p a) (suc i) d h = all-at a i d (le-of-suc-le-suc h)
+
+pub all-places : {A : Type 0} {P : A → Type 0} (xs : List A) (d : A) → ((i : ℕ) → i < length xs → P (getD xs i d)) → All P xs
+all-places [] d h = none
+all-places (x ∷ xs) d h = more (h 0 (omega arith)) (all-places xs d λ i k. h (suc i) (omega arith))
 
 pub all-take : {A : Type 0} {P : A → Type 0} {xs : List A} → All P xs → (i : ℕ) → All P (take i xs)
 all-take a zero = none

@@ -1,0 +1,59 @@
+-- The leaves among the pages: the entries in them, each with its leaf's mark, and the marks.
+use Prim.Native.Nat.{ℕ, _+_}
+use native.Mathlib.Nat.{zero-add}
+use mathlib.Core.Path.{_≡_, refl, sym, _∙_, ap, ap₂}
+use mathlib.Core.Bool.{Bool, true, false, cond}
+use mathlib.Core.List.{List, [], _∷_, _++_, map, flatMap, map-append}
+use lib.ListN.{length, length-append}
+use Rattle.rules.specs.declared.Stamp.{Stamp}
+use Rattle.rules.specs.declared.Entry.{Entry}
+use Rattle.rules.specs.Lists.{keep, put-if}
+use Rattle.rules.specs.Store.{Page}
+use Rattle.rules.specs.Sound.{is-leaf}
+use Rattle.rules.specs.laws.All.{always, map-back}
+
+-- an entry, with the mark of the leaf that it stands in
+pub record MarkedEntry : Type 0 where
+  pub mark : Stamp
+  pub entry : Entry
+
+abbrev pub with-mark : Stamp → Entry → MarkedEntry
+with-mark m e = record { mark = m; entry = e }
+
+abbrev pub leaves : List Page → List Page
+leaves ps = keep is-leaf ps
+
+unfoldable pub leaf-entries : List Page → List Entry
+leaf-entries ps = flatMap (λ g. g .places) (leaves ps)
+
+unfoldable pub marked : List Page → List MarkedEntry
+marked ps = flatMap (λ g. map (with-mark (g .mark)) (g .places)) (leaves ps)
+
+unfoldable pub leaf-marks : List Page → List Stamp
+leaf-marks ps = flatMap (λ g. g .mark ∷ []) (leaves ps)
+
+-- how many places of leaves are used
+unfoldable pub leaf-count : List Page → ℕ
+leaf-count [] = 0
+leaf-count (g ∷ gs) = cond (is-leaf g) (length (g .places)) 0 + leaf-count gs
+
+pub leaf-entries-count : (ps : List Page) → length (leaf-entries ps) ≡ leaf-count ps
+unfolding leaf-entries leaf-count keep flatMap
+leaf-entries-count [] = refl
+leaf-entries-count (g ∷ gs) = go (is-leaf g) (leaf-entries-count gs)
+  where
+    go : (b : Bool) → length (leaf-entries gs) ≡ leaf-count gs
+        → length (flatMap (λ g. g .places) (put-if b g (leaves gs))) ≡ cond b (length (g .places)) 0 + leaf-count gs
+    go true ih = length-append (g .places) (leaf-entries gs) ∙ ap (λ n. length (g .places) + n) ih
+    go false ih = ih ∙ sym (zero-add (leaf-count gs))
+
+-- the entries without their marks
+pub marked-entries : (ps : List Page) → map (λ k. k .entry) (marked ps) ≡ leaf-entries ps
+unfolding marked leaf-entries flatMap
+marked-entries ps = go (leaves ps)
+  where
+    go : (gs : List Page) → map (λ k. k .entry) (flatMap (λ g. map (with-mark (g .mark)) (g .places)) gs) ≡ flatMap (λ g. g .places) gs
+    go [] = refl
+    go (g ∷ gs) =
+        map-append (λ k. k .entry) (map (with-mark (g .mark)) (g .places)) (flatMap (λ g. map (with-mark (g .mark)) (g .places)) gs)
+        ∙ ap₂ (λ u v. u ++ v) (map-back (λ k. k .entry) (with-mark (g .mark)) (always (λ e. refl) (g .places))) (go gs)

@@ -1,0 +1,6 @@
+-- Theorems about the rules.
+pub mod TreeSound
+pub mod Leaves
+pub mod tree
+pub mod HeldLeaves
+pub mod ReportTree

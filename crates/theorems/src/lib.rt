@@ -1,0 +1,1 @@
+// Theorems about the rules. No code: what is proved stands in specs/.
