@@ -2,6 +2,8 @@
 pub mod Tests
 pub mod All
 pub mod Lists
+pub mod Places
+pub mod Splice
 pub mod Order
 pub mod Kept
 pub mod Boxes

@@ -2,9 +2,10 @@
 use Prim.Native.Nat.{_≤_, _<_, _*_, _^_}
 use native.Mathlib.Omega.{arith}
 use native.Mathlib.Nat.{mul-le-mul}
-use mathlib.Core.Path.{_≡_}
+use mathlib.Core.Path.{_≡_, refl}
 use mathlib.Core.Bool.{true}
 use mathlib.Core.List.{List, [], _∷_}
+use lib.ListN.{length}
 use Rattle.rules.specs.declared.Box.{Box}
 use Rattle.rules.specs.declared.Window.{Window}
 use Rattle.rules.specs.Boxes.{edge, meets, area, cover, cover-of}
@@ -43,6 +44,11 @@ cover-proper a b h k = omega arith
 
 -- ---- the cover of several
 module _ {A : Type 0} (f : A → Box) where
+  pub cover-of-more : (e : A) (es : List A) → 0 < length es → cover-of f (e ∷ es) ≡ cover (f e) (cover-of f es)
+  unfolding cover-of
+  cover-of-more e [] h = absurd (omega arith)
+  cover-of-more e (g ∷ es) h = refl
+
   pub cover-of-proper : {e : A} {es : List A} → All (λ e. ProperBox (f e)) (e ∷ es) → ProperBox (cover-of f (e ∷ es))
   unfolding cover-of
   cover-of-proper (more h none) = h

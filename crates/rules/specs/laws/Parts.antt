@@ -102,11 +102,14 @@ module _ (s : Store) (p : PageNo) (inside : p .0 < length (s .pages)) (fit : All
   sized-pages : All (λ g. length (page-words g) ≡ 52) (s .pages)
   sized-pages = all-map fit page-words-length
 
-  -- the page is read from them
-  pub page-there : page-of (take 52 (drop (16 + 52 * p .0) (words s))) ≡ page-at (s .pages) p
+  -- they are the page's words, from which it is read
+  pub page-words-there : take 52 (drop (16 + 52 * p .0) (words s)) ≡ page-words (page-at (s .pages) p)
   unfolding words page-at
-  page-there =
-      rw (one-there page-words 52 (header-words s) _ 16 (header-words-length s) sized-pages (p .0) inside free-page) (page-read _ (all-at fit (p .0) free-page inside))
+  page-words-there = one-there page-words 52 (header-words s) _ 16 (header-words-length s) sized-pages (p .0) inside free-page
+
+  pub page-there : page-of (take 52 (drop (16 + 52 * p .0) (words s))) ≡ page-at (s .pages) p
+  unfolding page-at
+  page-there = rw page-words-there (page-read _ (all-at fit (p .0) free-page inside))
 
   -- writing them is put-page
   pub page-written : (g : Page)

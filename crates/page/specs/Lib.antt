@@ -1,0 +1,3 @@
+-- The page struct: what it holds, its words, and what the functions make of it.
+pub mod Struct
+pub mod Laws
