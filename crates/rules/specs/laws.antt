@@ -7,6 +7,7 @@ pub mod Splice
 pub mod Order
 pub mod Kept
 pub mod Boxes
+pub mod Split
 pub mod Rows
 pub mod Words
 pub mod Header
