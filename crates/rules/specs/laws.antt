@@ -12,3 +12,4 @@ pub mod Rows
 pub mod Words
 pub mod Header
 pub mod Parts
+pub mod Memo
