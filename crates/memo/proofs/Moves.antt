@@ -8,7 +8,8 @@ use lib.ListN.{length, getD, set, replicate, replicate-append-replicate}
 use borrow.Author.Tests.{lt-ltb, le-ltb}
 use Rattle.rules.specs.declared.Slot.{Slot}
 use Rattle.rules.specs.declared.LookUp.the-variants.{Absent}
-use Rattle.rules.specs.laws.Memo.{inserted-length, look-up-says, without-length}
+use Rattle.rules.specs.laws.Memo.{inserted-length, look-up-says}
+use Rattle.rules.specs.laws.Places.{without-length}
 use Rattle.rules.specs.Lists.{without, first}
 use Rattle.rules.specs.Memo.{slot-inserted, look-up}
 use Rattle.rules.specs.Store.{memo-words}

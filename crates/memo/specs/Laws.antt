@@ -1,33 +1,61 @@
--- A memo's words are words that the functions take, and are read back as the memo.
+-- A memo's words are words that the functions take; what these promise is then said of the memo.
+use Prim.Native.Nat.{ℕ, _-_, _<_}
 use native.Mathlib.Omega.{arith}
-use Prim.Native.Nat.{ℕ}
-use mathlib.Core.Path.{_≡_, refl}
+use mathlib.Core.Path.{_≡_, sym, ap}
+use mathlib.Core.Bool.{Bool}
 use mathlib.Core.List.{List, [], append-nil}
+use lib.Dec.{leb}
+use lib.ListN.{length}
+use Rattle.rules.specs.declared.Train.{Train}
+use Rattle.rules.specs.declared.Stamp.{Stamp}
 use Rattle.rules.specs.declared.Slot.{Slot}
-use Rattle.rules.specs.Store.{memo-words}
+use Rattle.rules.specs.declared.LookUp.{LookUp}
+use Rattle.rules.specs.declared.LookUp.the-variants.{Absent}
+use Rattle.rules.specs.Store.{limit, memo-words}
+use Rattle.rules.specs.Memo.{look-up, noted, lowered, inspected}
 use Rattle.rules.specs.Views.{MemoInRange}
+use Rattle.rules.specs.laws.All.{All}
 use Rattle.rules.specs.laws.Words.{memo-words-length, memo-read}
-use Rattle.memo.specs.Slots.{room, table, slots-in, MemoWords}
+use Rattle.memo.specs.Slots.{room, table, slots-in, MemoWords, Inspected}
 
-module _ (k : ℕ) (ms : List Slot) (r : MemoInRange k ms) where
-  pub memo-room : room (memo-words k ms) ≡ k
-  memo-room = omega (arith, memo-words-length k ms (r .used-most))
+-- a part of the store's words, say, that is the memo's
+module _ (k : ℕ) (ms : List Slot) (r : MemoInRange k ms) (m : List ℕ) (e : m ≡ memo-words k ms) where
+  pub memo-room : room m ≡ k
+  memo-room = omega (arith, ap length e, memo-words-length k ms (r .used-most))
 
-  pub memo-slots : slots-in (memo-words k ms) ≡ ms
+  pub memo-slots : slots-in m ≡ ms
   unfolding slots-in table
-  memo-slots = rw memo-room (rw append-nil at (memo-read k ms (r .used-most) (r .trains) []))
+  memo-slots = rw (memo-room, e) (rw append-nil at (memo-read k ms (r .used-most) (r .trains) []))
 
-  pub memo-is : MemoWords (memo-words k ms)
-  memo-is =
+  pub memo-given : MemoWords m
+  memo-given =
       record {
-        whole = omega (arith, memo-words-length k ms (r .used-most));
+        whole = omega (arith, ap length e, memo-words-length k ms (r .used-most));
         in-range = rw (memo-room, memo-slots) r;
-        written = rw (memo-room, memo-slots) refl;
+        written = rw (memo-room, memo-slots) (sym e);
       }
 
-  -- a part that is the memo's words may be handed to the functions, which leave the words of the memo changed
-  pub memo-given : (m : List ℕ) → m ≡ memo-words k ms → MemoWords m
-  memo-given m e = rw e memo-is
+  -- what the functions ask for and promise, in terms of the memo
+  pub given-room : (t : Train) → (look-up t ms ≡ Absent → length ms < k) → look-up t (slots-in m) ≡ Absent → length (slots-in m) < room m
+  given-room t h = rw (memo-room, memo-slots) h
 
-  pub memo-left : (m : List ℕ) → m ≡ memo-words k ms → (f : List Slot → List Slot) → memo-words (room m) (f (slots-in m)) ≡ memo-words k (f ms)
-  memo-left m e f = rw (e, memo-room, memo-slots)
+  pub given-counts : All (λ s. s .old < limit) ms → All (λ s. s .old < limit) (slots-in m)
+  given-counts a = rw memo-slots a
+
+  pub so-looked-up : (t : Train) (l : LookUp) → l ≡ look-up t (slots-in m) → l ≡ look-up t ms
+  so-looked-up t l h = rw memo-slots at h
+
+  pub so-full : (b : Bool) → b ≡ leb (room m) (length (slots-in m)) → b ≡ leb k (length ms)
+  so-full b h = rw (memo-room, memo-slots) at h
+
+  pub so-noted : (t : Train) (s : Stamp) (m′ : List ℕ) → m′ ≡ memo-words (room m) (noted t s (slots-in m)) → m′ ≡ memo-words k (noted t s ms)
+  so-noted t s m′ h = rw (memo-room, memo-slots) at h
+
+  pub so-lowered : (t : Train) (m′ : List ℕ) → m′ ≡ memo-words (room m) (lowered t (slots-in m)) → m′ ≡ memo-words k (lowered t ms)
+  so-lowered t m′ h = rw (memo-room, memo-slots) at h
+
+  pub so-inspected : (mark : Stamp) (freed : ℕ) (m′ : List ℕ) → Inspected m mark freed m′ → m′ ≡ memo-words k (inspected mark ms)
+  so-inspected mark freed m′ h = rw (memo-room, memo-slots) at (h .words-left)
+
+  pub so-freed : (mark : Stamp) (freed : ℕ) (m′ : List ℕ) → Inspected m mark freed m′ → freed ≡ length ms - length (inspected mark ms)
+  so-freed mark freed m′ h = rw memo-slots at (h .slots-freed)

@@ -1,7 +1,7 @@
 -- Laws of keeping those of a list that pass a test.
 use mathlib.Core.Path.{_≡_, refl, sym, _∙_, ap, fun-ext}
 use mathlib.Core.Bool.{Bool, true, false, _&&_, and-comm}
-use mathlib.Core.List.{List, [], _∷_, List·Memᴰ·head, List·Memᴰ·tail}
+use mathlib.Core.List.{List, [], _∷_, _++_, List·Memᴰ·head, List·Memᴰ·tail}
 use Rattle.rules.specs.Lists.{keep, put-if}
 use Rattle.rules.specs.laws.All.{All, none, more, all-kept, Mem, all-member, all-members}
 
@@ -46,3 +46,13 @@ keeps f {x = x} (List·Memᴰ·tail {x = y} {xs = ys} m) h = go (f y) (keeps f m
     go : (b : Bool) → Mem x (keep f ys) → Mem x (put-if b y (keep f ys))
     go true k = List·Memᴰ·tail k
     go false k = k
+
+-- those kept of two lists stand one after the other
+put-append : {A : Type 0} (b : Bool) (x : A) (r ys : List A) → put-if b x (r ++ ys) ≡ put-if b x r ++ ys
+put-append true x r ys = refl
+put-append false x r ys = refl
+
+pub keep-append : {A : Type 0} (f : A → Bool) (xs ys : List A) → keep f (xs ++ ys) ≡ keep f xs ++ keep f ys
+unfolding keep
+keep-append f [] ys = refl
+keep-append f (x ∷ xs) ys = ap (put-if (f x) x) (keep-append f xs ys) ∙ put-append (f x) x (keep f xs) (keep f ys)

@@ -1,25 +1,27 @@
 -- Laws of the memo: slots in ascending train, what a look-up finds in them, and what noting, lowering and inspecting change.
-use Prim.Native.Nat.{ℕ, zero, suc, _<_, _≤_, _-_}
+use Prim.Native.Nat.{ℕ, zero, suc, _<_, _≤_, _-_, _+_}
 use native.Mathlib.Omega.{arith}
-use mathlib.Core.Path.{_≡_, refl, _∙_, ap, sym}
-use mathlib.Core.Bool.{Bool, true, false, cond, not}
+use native.Mathlib.Nat.{suc-add, zero-add}
+use mathlib.Core.Path.{_≡_, refl, _∙_, ap, sym, subst}
+use mathlib.Core.Bool.{_&&_, Bool, true, false, cond, not}
 use mathlib.Core.List.{List, [], _∷_, _++_, map, append-nil, List·Memᴰ·head, List·Memᴰ·tail}
-use lib.Dec.{eqb, ltb}
+use lib.Dec.{eqb, ltb, leb}
 use lib.Seq.{set-append-left, take-suc}
 use lib.ListN.{set, length-set, length, getD, replicate, take}
-use borrow.Author.Tests.{ne-eqb, eqb-true, eqb-false, ltb-true, ltb-false, lt-ltb, le-ltb, eq-eqb}
+use borrow.Author.Tests.{ne-eqb, eqb-true, eqb-false, ltb-true, ltb-false, lt-ltb, le-ltb, eq-eqb, leb-false}
 use Rattle.rules.specs.declared.Train.{Train}
 use Rattle.rules.specs.declared.Stamp.{Stamp}
 use Rattle.rules.specs.declared.Entry.{Entry}
 use Rattle.rules.specs.declared.Slot.{Slot}
 use Rattle.rules.specs.declared.LookUp.{LookUp}
 use Rattle.rules.specs.declared.LookUp.the-variants.{Absent, Found}
-use Rattle.rules.specs.Lists.{without, keep, put-if}
-use Rattle.rules.specs.Store.{train-of}
-use Rattle.rules.specs.Memo.{look-up, one-further, is-absent, latest-by, is-latest, slot-inserted, noted-by, noted, lowered-by, lowered, inspected}
+use Rattle.rules.specs.Lists.{count, one-if, without, keep, put-if}
+use Rattle.rules.specs.Store.{Store, limit, train-of}
+use Rattle.rules.specs.Memo.{look-up, one-further, is-absent, latest-by, is-latest, slot-inserted, noted-by, noted, lowered-by, lowered, inspected, lowered-all}
 use Rattle.rules.specs.Sound.{not-above}
-use Rattle.rules.specs.Views.{MemoInRange}
+use Rattle.rules.specs.Views.{HeaderInRange, MemoInRange, Rule6}
 use Rattle.rules.specs.laws.Tests.{either}
+use Rattle.rules.specs.laws.Kept.{keep-append}
 use Rattle.rules.specs.laws.All.{All, none, more, all-unmapped, all-mapped, all-at, all-zip, all-map, Mem, all-member}
 use Rattle.rules.specs.laws.Lists.{Ascending, a-none, a-more}
 use Rattle.rules.specs.laws.Words.{no-slot, all-slots}
@@ -110,23 +112,7 @@ unfolding slot-inserted
 inserted-length new [] = refl
 inserted-length new (m ∷ ms) = inserted-case (λ l. length l ≡ suc (suc (length ms))) new m ms (λ h. refl) (λ h. ap suc (inserted-length new ms))
 
--- ---- a slot freed: all but one
-pub without-length : {A : Type 0} (xs : List A) (i : ℕ) → i < length xs → length (without xs i) ≡ length xs - 1
-unfolding without
-without-length [] i h = absurd (omega arith)
-without-length (x ∷ xs) zero h = omega arith
-without-length (x ∷ xs) (suc i) h = let ih = without-length xs i (omega arith) in omega arith
-
 -- ---- slots inspected
-put-append : {A : Type 0} (b : Bool) (x : A) (r ys : List A) → put-if b x (r ++ ys) ≡ put-if b x r ++ ys
-put-append true x r ys = refl
-put-append false x r ys = refl
-
-pub keep-append : {A : Type 0} (f : A → Bool) (xs ys : List A) → keep f (xs ++ ys) ≡ keep f xs ++ keep f ys
-unfolding keep
-keep-append f [] ys = refl
-keep-append f (x ∷ xs) ys = ap (put-if (f x) x) (keep-append f xs ys) ∙ put-append (f x) x (keep f xs) (keep f ys)
-
 -- one slot more, which stays or is freed
 module _ (mark : Stamp) (ms : List Slot) (i : ℕ) (h : i < length ms) where
   pub one-stays : mark .0 ≤ getD ms i no-slot .latest .0 → inspected mark (take (suc i) ms) ≡ inspected mark (take i ms) ++ (getD ms i no-slot ∷ [])
@@ -193,12 +179,12 @@ known-member {m = m} (o-more {m = n} {ms = ms} a o) (List·Memᴰ·tail k) =
     known-on (m .train) n ms (omega (arith, all-member a k)) ∙ known-member o k
 
 -- ---- noted, lowered and inspected, slot by slot
--- the slot that noting makes: its old count is one above the one looked up, where none counts as 0
+-- the old count in an answer, where none counts as 0
 abbrev pub old-in : LookUp → ℕ
 old-in Absent = 0
 old-in (Found place latest old) = old
 
-abbrev slot : Train → Stamp → ℕ → Slot
+abbrev pub slot : Train → Stamp → ℕ → Slot
 slot t s n = record { train = t; latest = s; old = n }
 
 module _ (P : List Slot → Type 0) (t : Train) where
@@ -410,3 +396,41 @@ known-inspected u mark (o-more {m = m} {ms = ms} a o) =
     (λ h. rw (le-ltb (m .latest .0) (mark .0) h) (known-here u m (inspected mark ms) e))
     (λ h. rw (lt-ltb (m .latest .0) (mark .0) h) (ih ∙ ap (unless-below mark) (known-none u (all-map a λ n l. omega arith)))))
     (λ d. inspected-case (λ l. known u l ≡ unless-below mark (known u ms)) mark m ms (λ h. known-on u m (inspected mark ms) d ∙ ih) (λ h. ih))
+
+-- ---- each removed entry lowers its train's count
+pub lowered-all-in-order : (es : List Entry) {ms : List Slot} → InOrder ms → InOrder (lowered-all es ms)
+unfolding lowered-all
+lowered-all-in-order [] o = o
+lowered-all-in-order (e ∷ es) o = lowered-all-in-order es (lowered-in-order (train-of e) o)
+
+pub lowered-all-in-range : (k : ℕ) (es : List Entry) {ms : List Slot} → MemoInRange k ms → MemoInRange k (lowered-all es ms)
+unfolding lowered-all
+lowered-all-in-range k [] r = r
+lowered-all-in-range k (e ∷ es) r = lowered-all-in-range k es (lowered-in-range k r (train-of e))
+
+-- one less as often as an entry of the train goes
+unfoldable pub times-less : ℕ → LookUp → LookUp
+times-less zero l = l
+times-less (suc n) l = times-less n (one-less l)
+
+lowered-once : (u t : Train) {ms : List Slot} → InOrder ms → (n : ℕ) (b : Bool) → eqb (t .0) (u .0) ≡ b
+    → times-less n (known u (lowered t ms)) ≡ times-less (one-if b + n) (known u ms)
+unfolding times-less
+lowered-once u t {ms = ms} o n true q =
+    let same : t ≡ u = λ i. record { 0 = eqb-true (t .0) (u .0) q i } in
+    rw (suc-add, zero-add) (ap (times-less n) (subst (λ v. known v (lowered t ms) ≡ one-less (known v ms)) same (known-lowered t o)))
+lowered-once u t {ms = ms} o n false q = rw zero-add (ap (times-less n) (known-lowered-other u t (λ f. eqb-false _ _ q (sym f)) ms))
+
+pub known-lowered-all : (u : Train) (es : List Entry) {ms : List Slot} → InOrder ms
+    → known u (lowered-all es ms) ≡ times-less (count (λ e. eqb (train-of e .0) (u .0)) es) (known u ms)
+unfolding lowered-all times-less count
+known-lowered-all u [] o = refl
+known-lowered-all u (e ∷ es) o =
+    known-lowered-all u es (lowered-in-order (train-of e) o) ∙ lowered-once u (train-of e) o (count _ es) (eqb (train-of e .0) (u .0)) refl
+
+-- ---- what noting asks for: room where the train has no slot, and counts that may rise
+pub room-for : (t : Train) (k : ℕ) (ms : List Slot) → (is-absent (look-up t ms) && leb k (length ms)) ≡ false → look-up t ms ≡ Absent → length ms < k
+room-for t k ms f e = leb-false k (length ms) (rw e at f)
+
+pub counts-may-rise : (s : Store) → Rule6 s → HeaderInRange s → All (λ m. m .old < limit) (s .memo)
+counts-may-rise s r h = all-map (r .slots) λ m k. omega (arith, k .old-most, k .stamp-below, h .next-most)
