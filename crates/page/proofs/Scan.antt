@@ -15,7 +15,8 @@ use Rattle.rules.specs.Store.{Page as Contents, stamp, page-no, free-page, page
 use Rattle.rules.specs.Tree.{lowest-free}
 use Rattle.rules.specs.Cleaning.{smallest-mark, leaf-to-clean}
 use Rattle.rules.specs.laws.Places.{cut-length, drop-before, first-here, first-later, first-nowhere}
-use Rattle.page.specs.Struct.{page-in, lower-mark, leaf-marked, held-in, held-count}
+use Rattle.page.specs.Struct.{page-in, lower-mark, leaf-marked}
+use Rattle.rules.specs.Live.{held-in, held-count}
 use Rattle.page.specs.Laws.{pages-length, page-number}
 
 -- ---- what page i's first words say

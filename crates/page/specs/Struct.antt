@@ -71,11 +71,3 @@ lower-mark g later = cond (eqb (g .kind) 1 && leb (g .mark .0) (later .0)) (g .m
 -- a leaf with this mark
 unfoldable pub leaf-marked : Stamp → Contents → Bool
 leaf-marked mark g = eqb (g .kind) 1 && eqb (g .mark .0) (mark .0)
-
--- how many entries a page holds: none where it is no leaf; and how many the leaves of several pages hold
-unfoldable pub held-in : Contents → ℕ
-held-in g = let here = length (g .places) in cond (eqb (g .kind) 1) here 0
-
-unfoldable pub held-count : List Contents → ℕ
-held-count [] = 0
-held-count (g ∷ gs) = held-in g + held-count gs

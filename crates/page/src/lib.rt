@@ -8,6 +8,7 @@ ghost use Prim.Native.Nat.{_+_, _*_, _≤_, _<_, min};
 ghost use lib.ListN.{length, drop, getD};
 ghost use Rattle.rules.specs.Boxes.{cover-of};
 ghost use Rattle.rules.specs.Tree.{its-box, lowest-free};
+ghost use Rattle.rules.specs.Live.{held-in, held-count};
 ghost use Rattle.rules.specs.Cleaning.{smallest-mark, leaf-to-clean};
 ghost use Rattle.rules.specs.Store as rules;
 ghost use Rattle.page.specs.Struct as spec;
@@ -258,7 +259,7 @@ fn mark_of(store: &[u32], i: usize) -> Stamp
 // How many entries page i holds: none where it is no leaf.
 fn held_in(store: &[u32], i: usize) -> usize
     requires { ⌜ 16 + 52 * i + 52 ≤ length (now store) ⌝ }
-    ensures { λ r. ⌜ (r ≡ spec.held-in (spec.page-in (now (store .entry)) i)) × (r ≤ 8) ⌝ }
+    ensures { λ r. ⌜ (r ≡ held-in (spec.page-in (now (store .entry)) i)) × (r ≤ 8) ⌝ }
 {
     if kind_of(store, i) == 1 {
         return used(store[16 + 52 * i + 1]);
@@ -340,7 +341,7 @@ pub fn leaf_to_clean(store: &[u32], p: usize) -> PageNo
 // How many entries the leaves hold.
 pub fn held_entries(store: &[u32], p: usize) -> usize
     requires { ⌜ (p ≤ 192) × (16 + 52 * p ≤ length (now store)) ⌝ }
-    ensures { λ r. ⌜ r ≡ spec.held-count (rules.pages-of p (drop 16 (now (store .entry)))) ⌝ }
+    ensures { λ r. ⌜ r ≡ held-count (rules.pages-of p (drop 16 (now (store .entry)))) ⌝ }
 {
     let mut n = 0;
     let mut i = p;

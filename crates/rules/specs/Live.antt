@@ -1,8 +1,9 @@
 -- What the index holds: the entries in the tree, the latest ones as the live list, and a query's rows.
-use Prim.Native.Nat.{ℕ, zero, suc}
+use Prim.Native.Nat.{ℕ, zero, suc, _+_}
 use mathlib.Core.Bool.{not, cond, _&&_}
 use mathlib.Core.List.{List, [], _∷_, flatMap}
 use lib.Dec.{eqb, ltb}
+use lib.ListN.{length}
 use Rattle.rules.specs.declared.Train.{Train}
 use Rattle.rules.specs.declared.PageNo.{PageNo}
 use Rattle.rules.specs.declared.Window.{Window}
@@ -21,6 +22,14 @@ held-under ps (suc (suc l)) p = flatMap (λ e. held-under ps (suc l) (child-of e
 
 unfoldable pub held : Store → List Entry
 held s = held-under (s .pages) (s .levels) (s .root)
+
+-- how many entries the leaves among these pages hold
+unfoldable pub held-in : Page → ℕ
+held-in g = let here = length (g .places) in cond (eqb (g .kind) 1) here 0
+
+unfoldable pub held-count : List Page → ℕ
+held-count [] = 0
+held-count (g ∷ gs) = held-in g + held-count gs
 
 -- ---- rows in ascending train
 -- the row at its ascending place, in place of a row of the same train
@@ -49,5 +58,5 @@ rows-in s w = rows-of (keep (λ e. is-latest (s .memo) e && meets (e .bounds) w)
 
 -- a proof that says `unfolding live-open` sees through every definition of this file
 unfoldable pub live-open : Unit {0}
-unfolding held-under held row-inserted row-removed rows-of live rows-in
+unfolding held-under held held-in held-count row-inserted row-removed rows-of live rows-in
 live-open = tt

@@ -3,10 +3,10 @@ use mathlib.Core.Path.{_≡_, _∙_}
 use mathlib.Core.List.{map}
 use lib.ListN.{length}
 use Rattle.rules.specs.Store.{Store}
-use Rattle.rules.specs.Live.{held}
+use Rattle.rules.specs.Live.{held-count, held}
 use Rattle.rules.specs.laws.Order.{_~_, _then_, same, back, length-reordered}
 use Rattle.theorems.specs.TreeSound.{TreeSound}
-use Rattle.theorems.specs.Leaves.{leaf-entries, leaf-count, leaf-entries-count, marked, marked-entries}
+use Rattle.theorems.specs.Leaves.{leaf-entries, leaf-entries-count, marked, marked-entries}
 use Rattle.theorems.specs.tree.Descent.{held-all}
 use Rattle.theorems.specs.tree.FromRules.{from-sound}
 use Rattle.theorems.specs.tree.LeafAtoms.{entries-laid}
@@ -18,8 +18,8 @@ held-in-leaves s R =
     same (held-all s (I .top) (I .root) (I .level) (I .laid .stands)) then back (entries-laid (s .pages) (I .top) (I .laid))
 
 -- as many as the leaves have places used
-pub held-count : (s : Store) → TreeSound s → length (held s) ≡ leaf-count (s .pages)
-held-count s R = length-reordered (held-in-leaves s R) ∙ leaf-entries-count (s .pages)
+pub held-counted : (s : Store) → TreeSound s → length (held s) ≡ held-count (s .pages)
+held-counted s R = length-reordered (held-in-leaves s R) ∙ leaf-entries-count (s .pages)
 
 -- and those that are marked, without their marks
 pub held-marked : (s : Store) → TreeSound s → map (λ k. k .entry) (marked (s .pages)) ~ held s

@@ -1,7 +1,6 @@
 -- The tree by itself, apart from the pages that it is laid out in; and how it is laid out in them.
 pub mod Numbers
 pub mod Items
-pub mod Splitting
 pub mod PutFull
 pub mod PutAtoms
 pub mod Budget
@@ -15,3 +14,13 @@ pub mod Descent
 pub mod ToRules
 pub mod FromRules
 pub mod LeafAtoms
+pub mod Trim
+pub mod LeafMarks
+pub mod TrimAtoms
+pub mod TrimPages
+pub mod TrimStands
+pub mod GiveWay
+pub mod PutBack
+pub mod Path
+pub mod CleanAtoms
+pub mod Clean

@@ -4,7 +4,7 @@ use Prim.Native.Nat.{_≤_, _*_, _-_}
 use lib.ListN.{drop}
 use borrow.Author.Needs.{needs}
 use Rattle.rules.specs.Store.{pages-of}
-use Rattle.page.specs.Struct.{held-count}
+use Rattle.rules.specs.Live.{held-count}
 use Rattle.rules.specs.laws.Places.{from-first}
 use Rattle.page.proofs.Scan.{none-held, held-turn}
 use Rattle.page.proofs.held_entries.Statement.{statement}

@@ -3,7 +3,7 @@ use Prim.Native.Nat.{ℕ, zero, suc, _<_}
 use native.Mathlib.Omega.{arith}
 use native.Mathlib.Nat.{not-suc-le-zero, le-of-suc-le-suc}
 use mathlib.Core.Path.{_≡_, refl, sym, _∙_, ap}
-use mathlib.Core.Bool.{Bool, true, false}
+use mathlib.Core.Bool.{Bool, true, false, not}
 use mathlib.Core.List.{List, [], _∷_, _++_, map, flatMap, append-assoc}
 use mathlib.Core.List.{List·Permᴰ, List·Permᴰ·nil, List·Permᴰ·cons, List·Permᴰ·swap, List·Permᴰ·trans, Permᴰ·refl, Permᴰ·symm, Permᴰ·append-left, Permᴰ·append-right, Permᴰ·middle, Permᴰ·append-nil}
 use lib.ListN.{length, getD, set}
@@ -103,6 +103,19 @@ count-reordered f List·Permᴰ·nil = refl
 count-reordered f (List·Permᴰ·cons e d) = rw (e, count-reordered f d)
 count-reordered f (List·Permᴰ·swap {a = x} {b = y} e g) = rw (← e, ← g) (omega arith)
 count-reordered f (List·Permᴰ·trans d e) = count-reordered f d ∙ count-reordered f e
+
+-- what isn't kept, and what is
+pub keep-parts : {A : Type 0} (f : A → Bool) (xs : List A) → xs ~ (keep (λ x. not (f x)) xs ++ keep f xs)
+unfolding keep
+keep-parts f [] = List·Permᴰ·nil
+keep-parts {A} f (x ∷ xs) = go (f x) (keep-parts f xs)
+  where
+    rest : List A
+    rest = keep (λ x. not (f x)) xs
+
+    go : (b : Bool) → xs ~ (rest ++ keep f xs) → (x ∷ xs) ~ (put-if (not b) x rest ++ put-if b x (keep f xs))
+    go true r = List·Permᴰ·cons refl r then back (Permᴰ·middle x rest (keep f xs))
+    go false r = List·Permᴰ·cons refl r
 
 -- ---- one of a list taken out to the front, and another put in its place
 pub picked : {A : Type 0} (xs : List A) (i : ℕ) (d : A) → i < length xs → xs ~ (getD xs i d ∷ without xs i)

@@ -17,7 +17,8 @@ size xs = length (numbers xs)
 abbrev pub weight : List Atom → ℕ
 weight xs = length (entries xs)
 
-pub size-append : (a b : List Atom) → size (a ++ b) ≡ size a + size b
+-- both add up
+size-append : (a b : List Atom) → size (a ++ b) ≡ size a + size b
 size-append a b = ap length (flat-append number-of a b) ∙ length-append (numbers a) (numbers b)
 
 pub weight-append : (a b : List Atom) → weight (a ++ b) ≡ weight a + weight b
@@ -38,7 +39,7 @@ pages-entries zero m e h = omega arith
 pages-entries (suc l) m t h = omega (arith, h .least, sum-pages (atoms l (t .mark)) (all-map (h .each) λ c f. pages-entries l (t .mark) c f))
 
 -- a root with n places over full ones
-pub root-pages : (n l : ℕ) (m : Stamp) (t : Item (suc l)) → Thick n (Full l) t → 3 * size (atoms (suc l) m t) + n ≤ weight (atoms (suc l) m t) + 3
+root-pages : (n l : ℕ) (m : Stamp) (t : Item (suc l)) → Thick n (Full l) t → 3 * size (atoms (suc l) m t) + n ≤ weight (atoms (suc l) m t) + 3
 unfolding atoms flatMap
 root-pages n l m t h = omega (arith, h .least, sum-pages (atoms l (t .mark)) (all-map (h .each) λ c f. pages-entries l (t .mark) c f))
 

@@ -149,5 +149,6 @@ module _ (s : Store) (R : TreeSound s) (l : ℕ) (el : s .levels ≡ suc l) wher
         rooted = top-rooted;
       }
 
+-- the tree that a sound one's pages hold
 pub from-sound : (s : Store) → TreeSound s → TreeIn s
 from-sound s R = tree-in s R (s .levels - 1) (omega (arith, R .levels-least))

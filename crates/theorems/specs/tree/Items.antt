@@ -13,11 +13,13 @@ use Rattle.rules.specs.Store.{stamp, page-no}
 use Rattle.rules.specs.Tree.{choose, split}
 use Rattle.rules.specs.laws.All.{All}
 
+-- a page by itself: its number, its mark and what it holds
 pub record Node (A : Type 0) : Type 0 where
   pub no : PageNo
   pub mark : Stamp
   pub items : List A
 
+-- an item of each level
 abbrev pub Item : ℕ → Type 0
 Item zero = Entry
 Item (suc l) = Node (Item l)
@@ -27,12 +29,15 @@ unfoldable pub extent : (l : ℕ) → Item l → Box
 extent zero e = e .bounds
 extent (suc l) t = cover-of (extent l) (t .items)
 
+-- the mark of an inner page
 abbrev pub no-mark : Stamp
 no-mark = stamp 0
 
+-- the page with other items
 abbrev pub with-items : {A : Type 0} → Node A → List A → Node A
 with-items t xs = record { no = t .no; mark = t .mark; items = xs }
 
+-- what is read where there is no page
 abbrev pub no-node : {A : Type 0} → Node A
 no-node = record { no = page-no 0; mark = no-mark; items = [] }
 
@@ -51,6 +56,7 @@ unfoldable pub atoms : (l : ℕ) → Stamp → Item l → List Atom
 atoms zero m e = entry m e ∷ []
 atoms (suc l) m t = page l (t .no) (mark-at l (t .mark)) ∷ flatMap (atoms l (t .mark)) (t .items)
 
+-- those of a page
 abbrev pub atoms-of : (l : ℕ) → Item (suc l) → List Atom
 atoms-of l t = atoms (suc l) no-mark t
 

@@ -30,6 +30,7 @@ pub record Top : Type 0 where
 abbrev pub Rooted : ℕ → Top → Type 0
 Rooted n T = Thick (root-least n (T .depth)) (Full (T .depth)) (T .tree)
 
+-- what the whole tree is made of
 abbrev pub atoms-top : Top → List Atom
 atoms-top T = atoms-of (T .depth) (T .tree)
 
@@ -57,6 +58,12 @@ pub laid-count : (ps : List Page) (T : Top) (n : ℕ) → Laid ps T [] → n < l
 laid-count ps T n L h =
     let a = count-reordered (eqb n) (laid-once ps T L) ∙ count-from n 0 (length ps) (omega arith) (omega arith) in
     omega (arith, count-append n (frees ps) (numbers (atoms-top T)), count-frees ps n h)
+
+-- a used page is one of the tree's
+pub laid-used : (ps : List Page) (T : Top) (p : PageNo) → Laid ps T [] → is-free (page-at ps p) ≡ false → count (eqb (p .0)) (numbers (atoms-top T)) ≡ 1
+laid-used ps T p L u =
+    let c : one-if false + count (eqb (p .0)) (numbers (atoms-top T)) ≡ 1 = rw u at (laid-count ps T (p .0) L (used-inside ps p u)) in
+    omega arith
 
 -- a page written, that is zero where it is free
 pub clear-put : (ps : List Page) (p : PageNo) (g : Page) → p .0 < length ps → (is-free g ≡ true → g ≡ free-page) → Clear ps → Clear (put-page ps p g)

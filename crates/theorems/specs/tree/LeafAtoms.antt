@@ -19,7 +19,7 @@ use Rattle.rules.specs.laws.Order.{_~_, _then_, same, back, all-reordered, flat
 use Rattle.theorems.specs.Leaves.{MarkedEntry, with-mark, leaves, leaf-entries, marked, leaf-marks}
 use Rattle.theorems.specs.tree.Items.{Item, no-mark, Atom, page, entry, mark-at, atoms, atoms-of, number-of, numbers, entry-of, entries}
 use Rattle.theorems.specs.tree.Pages.{used-inside, frees, frees-inside}
-use Rattle.theorems.specs.tree.Stands.{kind-at, place, page-of, Stands}
+use Rattle.theorems.specs.tree.Stands.{kind-at, page-of, same-places, Stands}
 use Rattle.theorems.specs.tree.Laid.{Top, atoms-top, Laid, laid-once}
 use Rattle.theorems.specs.tree.Descent.{numbers-leaf, entries-leaf}
 
@@ -73,7 +73,7 @@ module _ {B : Type 0} (ps : List Page) (h : Page → List B) (k : Atom → List 
   none-from-free (more e a) = rw (e, none-from-free a)
 
   -- over the leaves among the pages, or over the tree
-  pub leaves-flat : (T : Top) → Laid ps T [] → flatMap h (leaves ps) ~ flatMap k (atoms-top T)
+  leaves-flat : (T : Top) → Laid ps T [] → flatMap h (leaves ps) ~ flatMap k (atoms-top T)
   unfolding page-at by-number its-leaf flatMap
   leaves-flat T L =
       let free : All (λ n. by-number n ≡ []) (frees ps) = all-map (frees-inside ps) λ n f. ap its-leaf (L .clear n (f .0)) in
@@ -91,25 +91,37 @@ leaf-mark-of (page zero p m) = m ∷ []
 leaf-mark-of (page (suc l) p m) = []
 leaf-mark-of (entry m e) = []
 
-pub marked-leaf : (m : Stamp) (es : List Entry) → map (with-mark m) (map (place 0) es) ≡ flatMap marked-of (flatMap (atoms 0 m) es)
-unfolding atoms flatMap place
+-- a leaf's entries have its mark
+pub marked-leaf : (m : Stamp) (es : List Entry) → map (with-mark m) es ≡ flatMap marked-of (flatMap (atoms 0 m) es)
+unfolding atoms flatMap
 marked-leaf m [] = refl
 marked-leaf m (e ∷ es) = ap (λ r. with-mark m e ∷ r) (marked-leaf m es)
 
+-- and have no leaf's mark among them
 pub marks-leaf : (m : Stamp) (es : List Entry) → flatMap leaf-mark-of (flatMap (atoms 0 m) es) ≡ []
 unfolding atoms flatMap
 marks-leaf m [] = refl
 marks-leaf m (e ∷ es) = marks-leaf m es
 
+-- the entries without their marks
+pub unmarked : (xs : List Atom) → map (λ k. k .entry) (flatMap marked-of xs) ≡ entries xs
+unfolding flatMap
+unmarked [] = refl
+unmarked (page l p m ∷ xs) = unmarked xs
+unmarked (entry m e ∷ xs) = ap (λ r. e ∷ r) (unmarked xs)
+
 module _ (ps : List Page) (T : Top) (L : Laid ps T []) where
+  -- the entries in the leaves
   pub entries-laid : leaf-entries ps ~ entries (atoms-top T)
   unfolding leaf-entries page-of atoms flatMap
   entries-laid = leaves-flat ps (λ g. g .places) entry-of (λ t. entries-leaf (t .mark) (t .items)) (λ l p. refl) T L
 
+  -- the same with their marks
   pub marked-laid : marked ps ~ flatMap marked-of (atoms-top T)
   unfolding marked page-of atoms flatMap
-  marked-laid = leaves-flat ps (λ g. map (with-mark (g .mark)) (g .places)) marked-of (λ t. marked-leaf (t .mark) (t .items)) (λ l p. refl) T L
+  marked-laid = leaves-flat ps (λ g. map (with-mark (g .mark)) (g .places)) marked-of (λ t. ap (map (with-mark (t .mark))) (same-places (t .items)) ∙ marked-leaf (t .mark) (t .items)) (λ l p. refl) T L
 
+  -- the leaves' marks
   pub marks-laid : leaf-marks ps ~ flatMap leaf-mark-of (atoms-top T)
   unfolding leaf-marks page-of atoms flatMap
   marks-laid = leaves-flat ps (λ g. g .mark ∷ []) leaf-mark-of (λ t. ap (λ r. t .mark ∷ r) (sym (marks-leaf (t .mark) (t .items)))) (λ l p. refl) T L
@@ -119,6 +131,7 @@ abbrev pub Says : List Page → Atom → Type 0
 Says ps (page l p m) = (page-at ps p .kind ≡ kind-at l) × (page-at ps p .mark ≡ m)
 Says ps (entry m e) = Unit {0}
 
+-- what stands in the pages is said of them by its atoms
 pub stands-says : (ps : List Page) (l : ℕ) (m : Stamp) (t : Item l) → Stands ps l t → All (Says ps) (atoms l m t)
 unfolding atoms page-of
 stands-says ps zero m t s = more tt none
@@ -131,6 +144,12 @@ abbrev pub SaysLeaf : List Page → (ℕ → Type 0) → Atom → Type 0
 SaysLeaf qs P (page zero p m) = P (p .0) → Says qs (page 0 p m)
 SaysLeaf qs P (page (suc l) p m) = Unit {0}
 SaysLeaf qs P (entry m e) = Unit {0}
+
+-- what is said of all pages is said of leaves
+pub says-leaf : (qs : List Page) (P : ℕ → Type 0) (a : Atom) → Says qs a → SaysLeaf qs P a
+says-leaf qs P (page zero p m) h = λ own. h
+says-leaf qs P (page (suc l) p m) h = tt
+says-leaf qs P (entry m e) h = tt
 
 -- where each leaf of the tree is said to be one of other pages too, with its mark, it is so of each leaf of the pages
 pub leaf-kept : (ps qs : List Page) (T : Top) (P : ℕ → Type 0) → Laid ps T [] → All (SaysLeaf qs P) (atoms-top T)

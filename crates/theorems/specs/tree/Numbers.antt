@@ -17,6 +17,7 @@ use Rattle.rules.specs.laws.Order.{_~_, _then_, all-reordered, count-reordered}
 abbrev pub Off : ℕ → List ℕ → Type 0
 Off n ns = All (λ m. m ≡ n → ⊥) ns
 
+-- the parts of numbers that all differ
 pub head-off : {x : ℕ} {xs : List ℕ} → Distinct (x ∷ xs) → Off x xs
 head-off (d-more o d) = o
 
@@ -42,6 +43,7 @@ unfolding from
 length-from n zero = refl
 length-from n (suc k) = ap suc (length-from (suc n) k)
 
+-- they all differ
 pub from-distinct : (n k : ℕ) → Distinct (from n k)
 unfolding from
 from-distinct n zero = d-none
@@ -53,12 +55,13 @@ unfolding count
 count-append p [] b = omega arith
 count-append p (x ∷ a) b = omega (arith, count-append p a b)
 
+-- what isn't there is counted 0 times, and the other way round
 pub off-count : (p : ℕ) {xs : List ℕ} → Off p xs → count (eqb p) xs ≡ 0
 unfolding count
 off-count p none = refl
 off-count p (more {x = x} h a) = rw (ne-eqb p x (λ e. h (sym e)), off-count p a)
 
-pub count-off : (p : ℕ) (xs : List ℕ) → count (eqb p) xs ≡ 0 → Off p xs
+count-off : (p : ℕ) (xs : List ℕ) → count (eqb p) xs ≡ 0 → Off p xs
 unfolding count
 count-off p [] h = none
 count-off p (x ∷ xs) h = go (eqb p x) refl h (λ k. count-off p xs k)
@@ -67,6 +70,7 @@ count-off p (x ∷ xs) h = go (eqb p x) refl h (λ k. count-off p xs k)
     go true e k f = absurd (omega arith)
     go false e k f = more (λ z. eqb-false p x e (sym z)) (f (omega arith))
 
+-- each is counted once
 pub count-from : (p n k : ℕ) → n ≤ p → p < n + k → count (eqb p) (from n k) ≡ 1
 unfolding count from
 count-from p n zero h j = absurd (omega arith)
@@ -116,6 +120,7 @@ abbrev pub picks : List ℕ → ℕ → List ℕ
 picks fs zero = []
 picks fs (suc n) = getD fs n 0 ∷ picks fs n
 
+-- how many they are, and what holds of them
 pub length-picks : (fs : List ℕ) (n : ℕ) → length (picks fs n) ≡ n
 length-picks fs zero = refl
 length-picks fs (suc n) = ap suc (length-picks fs n)

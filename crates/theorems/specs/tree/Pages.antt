@@ -160,18 +160,22 @@ pub frees-freed : (ps : List Page) (p : PageNo) → is-free (page-at ps p) ≡ f
 unfolding page-at put-page
 frees-freed ps p u = passing-more is-free free-page ps (p .0) free-page (used-inside ps p u) u refl
 
+-- the lowest free page is the first of them
 pub lowest-is : (ps : List Page) → 1 ≤ length (frees ps) → (getD (frees ps) 0 0 ≡ lowest-free ps .0) × (lowest-free ps .0 < length ps)
 unfolding lowest-free
 lowest-is ps h = passing-first is-free free-page ps h
 
+-- it is free
 pub lowest-is-free : (ps : List Page) → is-free (page-at ps (lowest-free ps)) ≡ true
 unfolding page-at lowest-free
 lowest-is-free ps = first-passes is-free free-page ps refl
 
+-- so are all of them, and they are pages
 pub frees-inside : (ps : List Page) → All (λ n. (is-free (page-at ps (page-no n)) ≡ true) × (n < length ps)) (frees ps)
 unfolding page-at
 frees-inside ps = all-passing is-free free-page ps λ n e k. (e, k)
 
+-- each free page is there once
 pub count-frees : (ps : List Page) (n : ℕ) → n < length ps → count (eqb n) (frees ps) ≡ one-if (is-free (page-at ps (page-no n)))
 unfolding page-at
 count-frees ps n h = count-passing is-free free-page ps n h

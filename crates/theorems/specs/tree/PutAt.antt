@@ -3,18 +3,18 @@ use Prim.Native.Nat.{ℕ, zero, suc, _+_, _*_, _-_, _≤_, min}
 use native.Mathlib.Omega.{arith}
 use mathlib.Core.Path.{_≡_, refl, sym, _∙_, ap, ap₂}
 use mathlib.Core.Bool.{false}
-use mathlib.Core.List.{List, [], _++_, flatMap}
+use mathlib.Core.List.{List, _++_, flatMap}
 use lib.ListN.{length, length-append}
 use Rattle.rules.specs.declared.PageNo.{PageNo}
 use Rattle.rules.specs.declared.Stamp.{Stamp}
 use Rattle.rules.specs.Store.{Page, page-no, page-at}
 use Rattle.rules.specs.Tree.{Tree, rooted, put-below, put-at}
 use Rattle.rules.specs.Sound.{is-free}
-use Rattle.rules.specs.laws.All.{All, none, more, flat-append}
+use Rattle.rules.specs.laws.All.{none, more, flat-append}
 use Rattle.rules.specs.laws.Order.{_~_, _then_, same, length-reordered, flat-reordered}
 use Rattle.theorems.specs.tree.Numbers.{Off}
-use Rattle.theorems.specs.tree.Items.{Item, no-mark, Atom, page, entry, atoms, numbers, entry-of, entries, Full, Grown, single, double, above, put}
-use Rattle.theorems.specs.tree.PutAtoms.{New}
+use Rattle.theorems.specs.tree.Items.{Item, no-mark, Atom, atoms, numbers, entry-of, entries, Full, Grown, single, double, above, put}
+use Rattle.theorems.specs.tree.PutAtoms.{New, pages-only}
 use Rattle.theorems.specs.tree.PutFull.{Good, put-good}
 use Rattle.theorems.specs.tree.Budget.{weight, root-least, room-waiting, pages-entries}
 use Rattle.theorems.specs.tree.Pages.{frees}
@@ -44,14 +44,8 @@ above-sub k n h = go (n - k) n (omega arith)
     go zero m e = omega arith
     go (suc d) m e = ap suc (go d (d + k) refl) ∙ omega arith
 
--- the entries of pages taken: none
-pub no-entries : {k : ℕ} {m : Stamp} {new : List Atom} → All (New k m) new → entries new ≡ []
-unfolding flatMap
-no-entries none = refl
-no-entries (more {x = page l n m} h a) = no-entries a
-no-entries (more {x = entry m e} h a) = absurd h
-
-pub entries-mark : (l : ℕ) (m m′ : Stamp) (x : Item l) → entries (atoms l m x) ≡ entries (atoms l m′ x)
+-- of the entries the mark given says nothing
+entries-mark : (l : ℕ) (m m′ : Stamp) (x : Item l) → entries (atoms l m x) ≡ entries (atoms l m′ x)
 unfolding atoms flatMap
 entries-mark zero m m′ x = refl
 entries-mark (suc l) m m′ x = refl
@@ -62,7 +56,7 @@ joined-entries k x old T J =
     flat-reordered entry-of (J .made)
     then same
     (flat-append entry-of (J .new) (atoms k (J .mark) x ++ old)
-    ∙ ap₂ (λ a b. a ++ b) (no-entries (J .fresh))
+    ∙ ap₂ (λ a b. a ++ b) (pages-only entry-of (λ l p m. refl) (New k (J .mark)) (λ m e h. h) (J .fresh))
     (flat-append entry-of (atoms k (J .mark) x) old ∙ ap (λ z. z ++ entries old) (entries-mark k (J .mark) no-mark x)))
 
 -- x put into the tree T, laid out in ps, has given the tree `top`, laid out in F; other pages than the free ones and T's are as they were

@@ -11,13 +11,14 @@ use borrow.Author.Tests.{leb-false, le-leb}
 use Rattle.rules.specs.declared.PageNo.{PageNo}
 use Rattle.rules.specs.declared.Stamp.{Stamp}
 use Rattle.rules.specs.declared.Box.{Box}
+use Rattle.rules.specs.declared.Entry.{Entry}
 use Rattle.rules.specs.Lists.{without}
 use Rattle.rules.specs.Store.{page-no}
 use Rattle.rules.specs.Tree.{choose, split}
 use Rattle.rules.specs.laws.All.{All, none, more, head-of, all-append, flat-append}
 use Rattle.rules.specs.laws.Order.{_~_, _then_, same, back, both, rear, swapped, forth, all-reordered, length-reordered, flat-reordered, picked}
 use Rattle.theorems.specs.tree.Numbers.{picks}
-use Rattle.theorems.specs.tree.Splitting.{choose-lt, split-parted}
+use Rattle.rules.specs.laws.Split.{choose-lt, split-parted}
 use Rattle.theorems.specs.tree.Items.{Node, Item, extent, no-mark, with-items, no-node, Atom, page, entry, mark-at, atoms, number-of, numbers, Thick, Full, Grown, single, double, parts, one-more, settle, replaced, above, put, splits}
 use Rattle.theorems.specs.tree.PutFull.{replaced-parts, parts-few}
 
@@ -35,6 +36,14 @@ Took d (double a b) n = n ≡ suc d
 abbrev pub New : ℕ → Stamp → Atom → Type 0
 New k m (page l n m′) = (k ≤ l) × (m′ ≡ mark-at l m)
 New k m (entry m′ e) = ⊥
+
+-- what is gathered from pages alone, where entries have it all: nothing
+pub pages-only : {B : Type 0} (k : Atom → List B) → ((l : ℕ) (p : PageNo) (m : Stamp) → k (page l p m) ≡ []) → (P : Atom → Type 0) → ((m : Stamp) (e : Entry) → P (entry m e) → ⊥)
+    → {xs : List Atom} → All P xs → flatMap k xs ≡ []
+unfolding flatMap
+pages-only k z P f none = refl
+pages-only k z P f (more {x = page l p m} h a) = rw (z l p m, pages-only k z P f a)
+pages-only k z P f (more {x = entry m e} h a) = absurd (f m e h)
 
 -- settling loses nothing: the page taken, the page itself, and what the items are made of
 module _ (l : ℕ) (f : Item l → Box) (q : PageNo) (t : Item (suc l)) (xs : List (Item l)) where
@@ -72,6 +81,7 @@ abbrev pub Under : {A B : Type 0} → Grown A → Grown B → Type 0
 Under (single a) g = IsSingle g
 Under (double a b) g = Unit {0}
 
+-- a page over a whole one isn't split
 pub settle-under : {A : Type 0} (f : A → Box) (q : PageNo) (t : Node A) (xs : List A) (i : ℕ) (g : Grown A)
     → length xs ≤ 8 → Under g (settle f q t (replaced xs i g))
 unfolding settle replaced
@@ -93,6 +103,7 @@ picks-more fs l m d (single b) (double a a′) n u e = absurd u
 picks-more fs l m d (double b c) (single a) n u e = refl
 picks-more fs l m d (double b c) (double a a′) n u e = rw e
 
+-- so is the first page taken
 pub picks-first : {A : Type 0} (fs : List ℕ) (l : ℕ) (m : Stamp) (g : Grown A) → numbers (taken l (page-no (getD fs 0 0)) m g) ≡ picks fs (one-more g 0)
 unfolding flatMap
 picks-first fs l m (single a) = refl
@@ -106,6 +117,7 @@ taken-new : {A : Type 0} (k l : ℕ) (q : PageNo) (m m′ : Stamp) (g : Grown A)
 taken-new k l q m m′ (single a) h e = none
 taken-new k l q m m′ (double a b) h e = let z : New k m′ (page l q (mark-at l m)) = (h, e) in more z none
 
+-- a level above another isn't below it
 pub above-least : (k d : ℕ) → k ≤ above k d
 above-least k zero = omega arith
 above-least k (suc d) = omega (arith, above-least k d)
@@ -135,6 +147,7 @@ sort-out n p o x c w f h =
 sort-out-first : {A : Type 0} (n : List A) (p : A) (i x : List A) → (n ++ (p ∷ (i ++ (x ++ [])))) ~ (n ++ (x ++ (p ∷ i)))
 sort-out-first n p i x = rear n (rear (p ∷ []) (rear i (same (append-nil x)) then swapped i x) then forth (p ∷ []) x i)
 
+-- so it is after every put
 pub put-outcome : (k d : ℕ) (fs : List ℕ) (x : Item k) (t : Item (above k (suc d))) (n : ℕ) → min 1 d ≤ n
     → Full k x → Thick n (Full (above k d)) t → Outcome k d fs x t (put k d fs x t)
 unfolding put atoms flatMap splits

@@ -14,7 +14,7 @@ use Rattle.rules.specs.Lists.{without}
 use Rattle.rules.specs.Tree.{choose, split}
 use Rattle.rules.specs.laws.All.{All, none, more, head-of, tail-of, all-append, all-front, all-back}
 use Rattle.rules.specs.laws.Order.{_~_, _then_, same, back, all-reordered, length-reordered, picked, placed}
-use Rattle.theorems.specs.tree.Splitting.{choose-lt, split-parted}
+use Rattle.rules.specs.laws.Split.{choose-lt, split-parted}
 use Rattle.theorems.specs.tree.Items.{Node, Item, extent, with-items, no-node, Thick, Full, Grown, single, double, parts, settle, replaced, above, put}
 
 -- what has become of a page is within bounds: one that stays has at least n places, the parts of a split at least 4
@@ -50,6 +50,7 @@ replaced-parts xs i (double y z) h =
     then List·Permᴰ·cons refl (same (append-nil (set xs i y)) then placed xs i y h)
     then List·Permᴰ·swap refl refl
 
+-- which are one or two
 pub parts-few : {A : Type 0} (g : Grown A) → (1 ≤ length (parts g)) × (length (parts g) ≤ 2)
 parts-few (single a) = omega arith
 parts-few (double a b) = omega arith

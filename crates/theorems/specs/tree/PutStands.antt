@@ -20,7 +20,7 @@ use Rattle.rules.specs.laws.All.{All, none, more, head-of, tail-of, all-map, al
 use Rattle.rules.specs.laws.Lists.{Distinct}
 use Rattle.rules.specs.laws.Order.{_~_, back, all-reordered, distinct-reordered, length-reordered, flat-reordered, flat-both, picked}
 use Rattle.theorems.specs.tree.Numbers.{Off, head-off, distinct-tail, distinct-front, distinct-cross, picks}
-use Rattle.theorems.specs.tree.Splitting.{choose-lt, split-parted}
+use Rattle.rules.specs.laws.Split.{choose-lt, split-parted}
 use Rattle.theorems.specs.tree.Items.{Node, Item, extent, no-mark, with-items, no-node, Atom, number-of, atoms, numbers, Thick, Full, Grown, single, double, parts, one-more, settle, replaced, above, put, splits}
 use Rattle.theorems.specs.tree.PutFull.{replaced-parts, parts-few}
 use Rattle.theorems.specs.tree.PutAtoms.{taken, Took, Under, settle-under, picks-more, picks-first, put-outcome}
@@ -148,6 +148,7 @@ took-double d n (single b) (single a) u e k = absurd (omega arith)
 took-double d n (single b) (double a a′) u e k = absurd u
 took-double d n (double b c) g u e k = k
 
+-- no page taken is given back
 pub more-least : {A : Type 0} (g : Grown A) (n : ℕ) → n ≤ one-more g n
 more-least (single a) n = omega arith
 more-least (double a b) n = omega arith

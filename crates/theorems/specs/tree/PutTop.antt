@@ -134,6 +134,7 @@ drop-picks (suc n) fs h =
 
 -- ---- both together
 module _ (k d : ℕ) (ps : List Page) (x : Item k) (t : Item (above k (suc d))) where
+  -- the tree before it and after it, and the flat one after it
   abbrev pub before : Top
   before = record { depth = above k d; tree = t }
 
@@ -147,6 +148,7 @@ module _ (k d : ℕ) (ps : List Page) (x : Item k) (t : Item (above k (suc d))) 
   abbrev pub taken-all : ℕ
   taken-all = one-more (put k d (frees ps) x t) (splits k d (frees ps) x t)
 
+  -- the flat pages after it, in which the tree after it is laid out
   pub record PutIn (rest : List ℕ) : Type 0 where
     pub root : flat-after .root ≡ after .tree .no
     pub level : flat-after .levels ≡ suc (after .depth)
@@ -155,6 +157,7 @@ module _ (k d : ℕ) (ps : List Page) (x : Item k) (t : Item (above k (suc d))) 
     pub others : (n : ℕ) → Off n (numbers (atoms-top before)) → is-free (page-at ps (page-no n)) ≡ false → page-at (flat-after .pages) (page-no n) ≡ page-at ps (page-no n)
 
   module _ (n : ℕ) (m : min 1 d ≤ n) (hx : Full k x) (h : Thick n (Full (above k d)) t) where
+    -- what the tree after it is made of
     pub gathered : Gathered k x (atoms-top before) (frees ps) taken-all after
     gathered = gather k d (frees ps) x t (put k d (frees ps) x t) (put-outcome k d (frees ps) x t n m hx h)
 
