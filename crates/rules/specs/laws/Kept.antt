@@ -1,7 +1,10 @@
 -- Laws of keeping those of a list that pass a test.
+use Prim.Native.Nat.{suc, _≤_}
+use native.Mathlib.Omega.{arith}
 use mathlib.Core.Path.{_≡_, refl, sym, _∙_, ap, fun-ext}
 use mathlib.Core.Bool.{Bool, true, false, _&&_, and-comm}
 use mathlib.Core.List.{List, [], _∷_, _++_, List·Memᴰ·head, List·Memᴰ·tail}
+use lib.ListN.{length}
 use Rattle.rules.specs.Lists.{keep, put-if}
 use Rattle.rules.specs.laws.All.{All, none, more, all-kept, Mem, all-member, all-members}
 
@@ -18,6 +21,16 @@ pub keep-all : {A : Type 0} (f : A → Bool) {xs : List A} → All (λ x. f x �
 unfolding keep
 keep-all f none = refl
 keep-all f (more h a) = rw (h, keep-all f a)
+
+-- those that are kept are no more than there were
+pub keep-fewer : {A : Type 0} (f : A → Bool) (xs : List A) → length (keep f xs) ≤ length xs
+unfolding keep
+keep-fewer f [] = omega arith
+keep-fewer f (x ∷ xs) = go (f x) (keep-fewer f xs)
+  where
+    go : (b : Bool) → length (keep f xs) ≤ length xs → length (put-if b x (keep f xs)) ≤ suc (length xs)
+    go true h = omega arith
+    go false h = omega arith
 
 -- one test after the other is both at once
 pub keep-both : {A : Type 0} (f g : A → Bool) (xs : List A) → keep (λ x. f x && g x) xs ≡ keep g (keep f xs)

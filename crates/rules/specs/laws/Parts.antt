@@ -1,18 +1,21 @@
 -- Writing a part of the store's words is replacing that part in the record.
-use Prim.Native.Nat.{ℕ, suc, _+_, _*_, _≤_, _<_}
+use Prim.Native.Nat.{ℕ, suc, _+_, _*_, _-_, _≤_, _<_}
 use native.Mathlib.Omega.{arith}
 use native.Mathlib.Nat.{le-of-lt}
-use mathlib.Core.Path.{_≡_, refl, sym}
-use mathlib.Core.List.{List, [], _++_, flatMap, append-assoc, append-nil}
-use lib.ListN.{length, take, drop, getD, set, length-append, length-set}
+use mathlib.Core.Path.{_≡_, refl, sym, _∙_}
+use mathlib.Core.List.{List, [], _∷_, _++_, flatMap, append-assoc, append-nil}
+use lib.ListN.{length, take, drop, getD, set, replicate, length-append, length-set}
 use lib.Seq.{length-take-le, take-at, drop-at, set-split, set-getD}
 use Rattle.rules.specs.declared.PageNo.{PageNo}
 use Rattle.rules.specs.declared.Slot.{Slot}
+use Rattle.rules.specs.declared.Row.{Row}
 use Rattle.rules.specs.declared.Stamp.{Stamp}
 use Rattle.rules.specs.Lists.{padded}
-use Rattle.rules.specs.Store.{Page, Board, Store, free-page, closed, page-at, put-page, board-at, memo-start, boards-start, row-limit, page-words, board-words, page-of, board-of, header-words, words}
-use Rattle.rules.specs.laws.All.{All, all-map, all-set, flat-append, all-take, all-at}
-use Rattle.rules.specs.laws.Words.{Fits, flat-length, page-words-length, page-read, board-words-length, board-read, memo-words, header-words-length, pages-length, memo-length}
+use Rattle.rules.specs.Boxes.{no-box}
+use Rattle.rules.specs.Store.{Page, Board, Store, free-page, closed, page-at, put-page, board-at, memo-start, boards-start, row-limit, train, box-words, window-words, row-words, page-words, board-words, row-of, page-of, board-of, header-words, words}
+use Rattle.rules.specs.Boards.{with-rows}
+use Rattle.rules.specs.laws.All.{All, all-map, all-set, flat-append, all-take, all-at, always}
+use Rattle.rules.specs.laws.Words.{Fits, flat-length, page-words-length, page-read, board-words-length, board-read, memo-words, header-words-length, pages-length, memo-length, row-words-length, row-read}
 
 -- ---- what holds of every element holds of one, of the first ones, and after a replacement
 -- ---- a part of some words, with others before and after it
@@ -158,11 +161,18 @@ module _ (s : Store) (fits : Fits s) (i : ℕ) (inside : i < length (s .boards))
   sized-boards : All (λ b. length (board-words b) ≡ 86) (s .boards)
   sized-boards = all-map (fits .boards-fit) board-words-length
 
-  -- the board is read from them
-  pub board-there : board-of (take 86 (drop (boards-start (length (s .pages)) (s .slots) + 86 * i) (words s))) ≡ board-at s i
+  -- they are the board's words, from which it is read
+  pub board-words-there : take 86 (drop (boards-start (length (s .pages)) (s .slots) + 86 * i) (words s)) ≡ board-words (board-at s i)
   unfolding board-at
-  board-there =
-      rw (around-boards (s .boards) refl, one-there board-words 86 before-boards [] _ boards-starts sized-boards i inside closed) (board-read _ (all-at (fits .boards-fit) i closed inside))
+  board-words-there =
+      rw (around-boards (s .boards) refl) (one-there board-words 86 before-boards [] _ boards-starts sized-boards i inside closed)
+
+  pub board-fits : length (board-at s i .rows) ≤ row-limit
+  unfolding board-at
+  board-fits = all-at (fits .boards-fit) i closed inside
+
+  pub board-there : board-of (take 86 (drop (boards-start (length (s .pages)) (s .slots) + 86 * i) (words s))) ≡ board-at s i
+  board-there = rw board-words-there (board-read (board-at s i) board-fits)
 
   -- writing them is another board i
   pub board-written : (b : Board)
@@ -182,3 +192,43 @@ fits-memo s memo f h a = record { pages-fit = f .pages-fit; memo-fits = h; slots
 pub fits-board : (s : Store) (i : ℕ) (b : Board) → Fits s → length (b .rows) ≤ row-limit → Fits (with-boards s (set (s .boards) i b))
 fits-board s i b f h =
     record { pages-fit = f .pages-fit; memo-fits = f .memo-fits; slots-used = f .slots-used; boards-fit = all-set (f .boards-fit) i h }
+
+-- ---- the rows in a board's own words: five words each, from word 6 on
+-- an unused row
+abbrev pub no-row : Row
+no-row = record { train = train 0; bounds = no-box }
+
+-- words 0 to 5 with this count; the zeros behind n rows; and a board's words, these around the rows
+abbrev board-head : Board → ℕ → List ℕ
+board-head b n = b .window .x0 ∷ b .window .y0 ∷ b .window .x1 ∷ b .window .y1 ∷ b .isopen ∷ n ∷ []
+
+abbrev behind-rows : ℕ → List ℕ
+behind-rows n = replicate (5 * (row-limit - n)) 0
+
+laid-out : (b : Board) → length (b .rows) ≤ row-limit → board-words b ≡ board-head b (length (b .rows)) ++ (flatMap row-words (b .rows) ++ behind-rows (length (b .rows)))
+unfolding board-words window-words padded
+laid-out b fit =
+    let n = length (b .rows) in
+    let e : 86 - suc (suc (suc (suc (suc (suc (5 * n)))))) ≡ 5 * (row-limit - n) = omega arith in
+    rw (flat-length row-words 5 (always row-words-length (b .rows)), e)
+
+module _ (b : Board) (fit : length (b .rows) ≤ row-limit) (i : ℕ) (inside : i < length (b .rows)) where
+  -- row i is read from its words
+  pub row-there : (d : Row) → row-of (take 5 (drop (6 + 5 * i) (board-words b))) ≡ getD (b .rows) i d
+  row-there d =
+      rw (laid-out b fit, one-there row-words 5 (board-head b (length (b .rows))) (behind-rows (length (b .rows))) 6 refl (always row-words-length (b .rows)) i inside d) (row-read _)
+
+  -- writing them is another row i
+  pub row-written : (r : Row) → board-words (with-rows (set (b .rows) i r) b) ≡ take (6 + 5 * i) (board-words b) ++ (row-words r ++ drop (6 + 5 * i + 5) (board-words b))
+  row-written r =
+      let n = length-set (b .rows) i r in
+      laid-out (with-rows (set (b .rows) i r) b) (omega arith) ∙ rw (laid-out b fit, n) (one-written row-words 5 (board-head b (length (b .rows))) (behind-rows (length (b .rows))) 6 refl (always row-words-length (b .rows)) i inside r)
+
+-- counting one row more is an unused row behind the used ones
+pub row-added : (b : Board) → length (b .rows) < row-limit → board-words (with-rows (b .rows ++ (no-row ∷ [])) b) ≡ set (board-words b) 5 (length (b .rows) + 1)
+unfolding flatMap row-words box-words
+row-added b h =
+    let n = length (b .rows) in
+    let k : length (b .rows ++ (no-row ∷ [])) ≡ n + 1 = rw length-append in
+    let e : 5 * (row-limit - n) ≡ suc (suc (suc (suc (suc (5 * (row-limit - (n + 1))))))) = omega arith in
+    laid-out (with-rows (b .rows ++ (no-row ∷ [])) b) (omega arith) ∙ rw (laid-out b (omega arith), k, flat-append, append-assoc, e)

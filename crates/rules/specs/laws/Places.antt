@@ -87,3 +87,28 @@ module _ {A : Type 0} where
   gap-last (y ∷ []) zero x e = refl
   gap-last (y ∷ z ∷ xs) zero x e = absurd (omega arith)
   gap-last (y ∷ xs) (suc n) x e = ap (λ r. y ∷ r) (gap-last xs n x (omega arith))
+
+  -- or back by one: the element before comes into its place
+  pub gap-back : (xs : List A) (j : ℕ) (d : A) → 0 < j → j < length xs → without (set xs j (getD xs (j - 1) d)) (j - 1) ≡ without xs j
+  unfolding without
+  gap-back xs zero d h k = absurd (not-suc-le-zero h)
+  gap-back xs (suc i) d h k = let e : suc i - 1 ≡ i = omega arith in rw e (go xs i k)
+    where
+      go : (xs : List A) (i : ℕ) → suc i < length xs → without (set xs (suc i) (getD xs i d)) i ≡ without xs (suc i)
+      go [] i h = absurd (not-suc-le-zero h)
+      go (x ∷ []) i h = absurd (not-suc-le-zero (le-of-suc-le-suc h))
+      go (x ∷ y ∷ xs) zero h = refl
+      go (x ∷ y ∷ xs) (suc i) h = ap (λ r. x ∷ r) (go (y ∷ xs) i (le-of-suc-le-suc h))
+
+  -- an element that comes into the gap stands between those before and behind it
+  pub gap-filled : (xs : List A) (i : ℕ) (x : A) → i < length xs → set xs i x ≡ take i (without xs i) ++ (x ∷ drop i (without xs i))
+  unfolding without
+  gap-filled [] i x h = absurd (not-suc-le-zero h)
+  gap-filled (y ∷ xs) zero x h = refl
+  gap-filled (y ∷ xs) (suc i) x h = ap (λ r. y ∷ r) (gap-filled xs i x (le-of-suc-le-suc h))
+
+  -- what is added at the end is no more than a gap there
+  pub gap-added : (xs : List A) (x : A) → without (xs ++ (x ∷ [])) (length xs) ≡ xs
+  unfolding without
+  gap-added [] x = refl
+  gap-added (y ∷ xs) x = ap (λ r. y ∷ r) (gap-added xs x)

@@ -7,6 +7,7 @@ use mathlib.Core.Bool.{Bool, true, false, cond, _&&_, _||_, or-true, true≢fals
 use mathlib.Core.List.{List, [], _∷_, map, List·Memᴰ·head, List·Memᴰ·tail, List·Memᴰ·not-nil, Memᴰ·cast}
 use mathlib.Core.List.{List·Permᴰ, Permᴰ·symm}
 use lib.Dec.{eqb, ltb}
+use lib.ListN.{length}
 use borrow.Author.Tests.{ltb-true, ltb-false, eqb-true, eqb-false, eq-eqb, ne-eqb, not-true}
 use Rattle.rules.specs.declared.Train.{Train}
 use Rattle.rules.specs.declared.Entry.{Entry}
@@ -20,7 +21,7 @@ use Rattle.rules.specs.laws.Tests.{either}
 use Rattle.rules.specs.laws.All.{All, none, more, all-map, all-kept, Mem, all-members, all-unmapped, all-member}
 use Rattle.rules.specs.laws.Lists.{Distinct, d-more}
 use Rattle.rules.specs.laws.Order.{distinct-reordered, map-reordered, mem-reordered}
-use Rattle.rules.specs.laws.Kept.{keep-all, keep-no, keep-swap, keep-yes}
+use Rattle.rules.specs.laws.Kept.{keep-all, keep-fewer, keep-no, keep-swap, keep-yes}
 
 -- ---- each train is below the next
 abbrev pub Above : ℕ → List Row → Type 0
@@ -273,7 +274,7 @@ unfolding some-one
 some-one-at f (List·Memᴰ·head {xs = ys} e) h = ap (λ b. b || some-one f ys) (rw e at h)
 some-one-at f (List·Memᴰ·tail {x = y} m) h = ap (λ b. f y || b) (some-one-at f m h) ∙ or-true (f y)
 
-no-one : {A : Type 0} (f : A → Bool) {xs : List A} → All (λ x. f x ≡ false) xs → some-one f xs ≡ false
+pub no-one : {A : Type 0} (f : A → Bool) {xs : List A} → All (λ x. f x ≡ false) xs → some-one f xs ≡ false
 unfolding some-one
 no-one f none = refl
 no-one f (more h a) = rw (h, no-one f a)
@@ -341,3 +342,30 @@ untold-untouched t b h = go (is-open b) refl h
     go : (o : Bool) → is-open b ≡ o → (o && (lists t b || lists t (untold t b))) ≡ false → untold t b ≡ b
     go true e k = untold-same t b (neither (lists t b) _ k .0)
     go false e k = rw e
+
+-- ---- each case of a report and of a withdrawal
+module _ (r : Row) (b : Board) where
+  pub told-closed : is-open b ≡ false → told r b ≡ b
+  unfolding told
+  told-closed o = rw o
+
+  pub told-met : is-open b ≡ true → meets (r .bounds) (b .window) ≡ true → told r b ≡ with-rows (row-inserted r (b .rows)) b
+  unfolding told
+  told-met o m = rw (o, m)
+
+  pub told-missed : is-open b ≡ true → meets (r .bounds) (b .window) ≡ false → told r b ≡ with-rows (row-removed (r .train) (b .rows)) b
+  unfolding told
+  told-missed o m = rw (o, m)
+
+pub untold-closed : (t : Train) (b : Board) → is-open b ≡ false → untold t b ≡ b
+unfolding untold
+untold-closed t b o = rw o
+
+pub untold-open : (t : Train) (b : Board) → is-open b ≡ true → untold t b ≡ with-rows (row-removed t (b .rows)) b
+unfolding untold
+untold-open t b o = rw o
+
+-- no more rows than before are left of a train's removal
+pub removed-fewer : (t : Train) (rs : List Row) → length (row-removed t rs) ≤ length rs
+unfolding row-removed
+removed-fewer t rs = keep-fewer _ rs

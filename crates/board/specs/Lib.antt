@@ -1,0 +1,3 @@
+-- A board's own words, and where a row stands among its rows.
+pub mod Rows
+pub mod Laws
