@@ -9,7 +9,11 @@ pub mod Kept
 pub mod Boxes
 pub mod Split
 pub mod Rows
+pub mod Boards
+pub mod Counts
 pub mod Words
 pub mod Header
 pub mod Parts
 pub mod Memo
+pub mod Numbers
+pub mod Noting

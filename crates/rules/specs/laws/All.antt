@@ -81,6 +81,10 @@ all-kept {P = P} f (more {x = x} {xs = xs} h a) = go (f x) refl (all-kept f a)
     go true e r = more (h e) r
     go false e r = r
 
+pub all-put : {A : Type 0} {P : A → Type 0} (b : Bool) (x : A) {xs : List A} → (b ≡ true → P x) → All P xs → All P (put-if b x xs)
+all-put true x h a = more (h refl) a
+all-put false x h a = a
+
 pub all-replicate : {A : Type 0} {P : A → Type 0} (n : ℕ) (x : A) → P x → All P (replicate n x)
 all-replicate zero x h = none
 all-replicate (suc n) x h = more h (all-replicate n x h)
@@ -117,6 +121,12 @@ pub all-at : {A : Type 0} {P : A → Type 0} {xs : List A} → All P xs → (i :
 all-at none i d h = absurd (not-suc-le-zero h)
 all-at (more p a) zero d h = p
 all-at (more p a) (suc i) d h = all-at a i d (le-of-suc-le-suc h)
+
+-- at any place, where it also holds of what stands past the end
+pub all-anywhere : {A : Type 0} {P : A → Type 0} {xs : List A} → All P xs → (i : ℕ) (d : A) → P d → P (getD xs i d)
+all-anywhere none i d h = h
+all-anywhere (more p a) zero d h = p
+all-anywhere (more p a) (suc i) d h = all-anywhere a i d h
 
 pub all-places : {A : Type 0} {P : A → Type 0} (xs : List A) (d : A) → ((i : ℕ) → i < length xs → P (getD xs i d)) → All P xs
 all-places [] d h = none

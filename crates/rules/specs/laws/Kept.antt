@@ -16,6 +16,10 @@ pub keep-no : {A : Type 0} (f : A → Bool) (x : A) (xs : List A) → f x ≡ fa
 unfolding keep
 keep-no f x xs e = rw e
 
+pub keep-put : {A : Type 0} (f : A → Bool) (b : Bool) (x : A) (xs : List A) → f x ≡ true → keep f (put-if b x xs) ≡ put-if b x (keep f xs)
+keep-put f true x xs e = keep-yes f x xs e
+keep-put f false x xs e = refl
+
 -- where all pass, all are kept
 pub keep-all : {A : Type 0} (f : A → Bool) {xs : List A} → All (λ x. f x ≡ true) xs → keep f xs ≡ xs
 unfolding keep
@@ -46,6 +50,12 @@ keep-both f g (x ∷ xs) = go (f x) (keep-both f g xs)
 -- of two tests it doesn't matter which comes first
 pub keep-swap : {A : Type 0} (f g : A → Bool) (xs : List A) → keep f (keep g xs) ≡ keep g (keep f xs)
 keep-swap f g xs = sym (keep-both g f xs) ∙ ap (λ h. keep h xs) (fun-ext λ x. and-comm (g x) (f x)) ∙ keep-both f g xs
+
+-- two tests that agree on all keep the same
+pub keep-same : {A : Type 0} (f g : A → Bool) {xs : List A} → All (λ x. f x ≡ g x) xs → keep f xs ≡ keep g xs
+unfolding keep
+keep-same f g none = refl
+keep-same f g (more h a) = rw (h, keep-same f g a)
 
 -- the kept are the members that pass
 pub kept : {A : Type 0} (f : A → Bool) {x : A} (xs : List A) → Mem x (keep f xs) → Mem x xs × (f x ≡ true)

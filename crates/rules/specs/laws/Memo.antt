@@ -136,7 +136,7 @@ pub known-on : (t : Train) (m : Slot) (ms : List Slot) → (m .train .0 ≡ t .0
 unfolding known
 known-on t m ms d = rw (ne-eqb (m .train .0) (t .0) d)
 
-known-case : (P : LookUp → Type 0) (t : Train) (m : Slot) (ms : List Slot)
+pub known-case : (P : LookUp → Type 0) (t : Train) (m : Slot) (ms : List Slot)
     → (m .train .0 ≡ t .0 → P (Found 0 (m .latest) (m .old))) → ((m .train .0 ≡ t .0 → ⊥) → P (known t ms)) → P (known t (m ∷ ms))
 unfolding known
 known-case P t m ms here on = either P (eqb (m .train .0) (t .0)) (λ e. here (eqb-true _ _ e)) (λ e. on (eqb-false _ _ e))

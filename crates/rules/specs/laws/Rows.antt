@@ -18,7 +18,7 @@ use Rattle.rules.specs.Store.{Board, train-of}
 use Rattle.rules.specs.Live.{row-inserted, row-removed, row-for, rows-of}
 use Rattle.rules.specs.Boards.{is-open, lists, with-rows, told, untold}
 use Rattle.rules.specs.laws.Tests.{either}
-use Rattle.rules.specs.laws.All.{All, none, more, all-map, all-kept, Mem, all-members, all-unmapped, all-member}
+use Rattle.rules.specs.laws.All.{All, none, more, all-map, all-kept, Mem, all-members, all-unmapped, all-member, all-mapped}
 use Rattle.rules.specs.laws.Lists.{Distinct, d-more}
 use Rattle.rules.specs.laws.Order.{distinct-reordered, map-reordered, mem-reordered}
 use Rattle.rules.specs.laws.Kept.{keep-all, keep-fewer, keep-no, keep-swap, keep-yes}
@@ -197,11 +197,20 @@ inserted-removed r (r-more {r = q} {rs = qs} h a) =
 abbrev pub Apart : List Entry → Type 0
 Apart es = Distinct (map (λ e. train-of e .0) es)
 
-first-apart : {x : ℕ} {xs : List ℕ} → Distinct (x ∷ xs) → All (λ y. y ≡ x → ⊥) xs
+pub first-apart : {x : ℕ} {xs : List ℕ} → Distinct (x ∷ xs) → All (λ y. y ≡ x → ⊥) xs
 first-apart (d-more h d) = h
 
-rest-apart : {x : ℕ} {xs : List ℕ} → Distinct (x ∷ xs) → Distinct xs
+pub rest-apart : {x : ℕ} {xs : List ℕ} → Distinct (x ∷ xs) → Distinct xs
 rest-apart (d-more h d) = d
+
+pub apart-kept : (f : Entry → Bool) (es : List Entry) → Apart es → Apart (keep f es)
+unfolding keep
+apart-kept f [] d = d
+apart-kept f (e ∷ es) d = go (f e) (apart-kept f es (rest-apart d))
+  where
+    go : (b : Bool) → Apart (keep f es) → Apart (put-if b e (keep f es))
+    go true a = d-more (all-mapped _ (all-kept f (all-map (all-unmapped _ es (first-apart d)) λ x h p. h))) a
+    go false a = a
 
 pub all-rows-of : {P : Row → Type 0} {es : List Entry} → All (λ e. P (row-for e)) es → All P (rows-of es)
 unfolding rows-of
@@ -265,7 +274,7 @@ rows-of-reordered {es = es} {fs = fs} p d =
     same-members (rows-of-ascend es) (rows-of-ascend fs) (members-reordered p (apart-reordered p d)) (members-reordered (Permᴰ·symm p) d)
 
 -- ---- what a board lists
-neither : (a b : Bool) → (a || b) ≡ false → (a ≡ false) × (b ≡ false)
+pub neither : (a b : Bool) → (a || b) ≡ false → (a ≡ false) × (b ≡ false)
 neither true b e = absurd (true≢false e)
 neither false b e = (refl, e)
 
@@ -279,7 +288,7 @@ unfolding some-one
 no-one f none = refl
 no-one f (more h a) = rw (h, no-one f a)
 
-no-one-all : {A : Type 0} (f : A → Bool) (xs : List A) → some-one f xs ≡ false → All (λ x. f x ≡ false) xs
+pub no-one-all : {A : Type 0} (f : A → Bool) (xs : List A) → some-one f xs ≡ false → All (λ x. f x ≡ false) xs
 unfolding some-one
 no-one-all f [] e = none
 no-one-all f (x ∷ xs) e = let h = neither (f x) (some-one f xs) e in more (h .0) (no-one-all f xs (h .1))

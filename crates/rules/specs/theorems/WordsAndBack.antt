@@ -1,18 +1,18 @@
 -- A store in range is written as words and read back the same, and the words of a sound store are refused by no test of a lent store.
-use Prim.Native.Nat.{ℕ, suc, _≤_}
+use Prim.Native.Nat.{ℕ, _≤_}
 use native.Mathlib.Omega.{arith}
-use native.Mathlib.Nat.{suc-ne-zero}
 use mathlib.Core.Path.{_≡_, refl}
-use mathlib.Core.Bool.{Bool, true, false}
-use mathlib.Core.List.{List, [], _∷_}
+use mathlib.Core.Bool.{true}
+use mathlib.Core.List.{List}
 use lib.ListN.{length}
 use borrow.Author.Tests.{eq-eqb, le-ltb, not-false}
 use Rattle.rules.specs.Lists.{every, same-words, padded}
 use Rattle.rules.specs.Store.{Store, memo-start, boards-start, store-length, header-words, words, store-of}
 use Rattle.rules.specs.Sound.{in-range, sound, sound-words}
-use Rattle.rules.specs.Numbers.{Refusal, _when_, first-met}
+use Rattle.rules.specs.Numbers.{first-met}
 use Rattle.rules.specs.Calls.{sizes-read, laid-out, store-tests}
 use Rattle.rules.specs.laws.Tests.{and-left, and-right, and-both, each, each-all-of}
+use Rattle.rules.specs.laws.Numbers.{unmet}
 use Rattle.rules.specs.laws.Lists.{same-words-equal, same-words-self}
 use Rattle.rules.specs.laws.Words.{Fits, in-range-fits, words-length, pages-back, memo-back, boards-back}
 
@@ -69,17 +69,10 @@ words-accepted s e =
     let r : in-range s ≡ true = sound-in-range s e in
     rw (le-ltb _ 16 (at-least-16 s r), words-sizes s r, words-laid-out s r, words-sound s e)
 
--- where the number of a refusal is 0, its first test is not met, nor is any later one
-none-met : (n : ℕ) (b : Bool) (rs : List Refusal) → first-met ((suc n when b) ∷ rs) ≡ 0 → (b ≡ false) × (first-met rs ≡ 0)
-unfolding first-met
-none-met n true rs e = absurd (suc-ne-zero n e)
-none-met n false rs e = (refl, e)
-
 -- and words that no test refuses are those of the sound store that is read from them
 pub accepted-words : (w : List ℕ) → first-met (store-tests w) ≡ 0 → (words (store-of w) ≡ w) × (sound (store-of w) ≡ true)
 unfolding store-tests sound-words
 accepted-words w e =
     let same = same-words (words (store-of w)) w in
-    let left = none-met 0 _ _ (none-met 1 _ _ e .1) .1 in
-    let t : sound-words w ≡ true = not-false _ (none-met 2 _ [] (none-met 1 _ _ left .1) .0) in
+    let t : sound-words w ≡ true = not-false _ (unmet (store-tests w) (omega arith) e .1 .1 .1 .0) in
     (same-words-equal _ w (and-left same _ t), and-right same _ t)

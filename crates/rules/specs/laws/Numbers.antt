@@ -1,0 +1,26 @@
+-- Laws of refusals: where the number is 0, no test is met.
+use Prim.Native.Nat.{_≤_}
+use native.Mathlib.Omega.{arith}
+use mathlib.Core.Path.{_≡_, refl}
+use mathlib.Core.Bool.{Bool, true, false, cond}
+use mathlib.Core.List.{List, [], _∷_}
+use Rattle.rules.specs.Numbers.{Refusal, first-met}
+
+-- each refusal has a number other than 0
+abbrev pub Numbered : List Refusal → Type 0
+Numbered [] = Unit {0}
+Numbered (r ∷ rs) = (1 ≤ r .number) × Numbered rs
+
+-- no test is met, as a tuple of facts
+abbrev pub Unmet : List Refusal → Type 0
+Unmet [] = Unit {0}
+Unmet (r ∷ rs) = (r .met ≡ false) × Unmet rs
+
+pub unmet : (rs : List Refusal) → Numbered rs → first-met rs ≡ 0 → Unmet rs
+unfolding first-met
+unmet [] n e = tt
+unmet (r ∷ rs) n e = go (r .met) refl e (unmet rs (n .1))
+  where
+    go : (b : Bool) → r .met ≡ b → cond b (r .number) (first-met rs) ≡ 0 → (first-met rs ≡ 0 → Unmet rs) → Unmet (r ∷ rs)
+    go true m e later = absurd (omega (arith, n .0))
+    go false m e later = (m, later e)
