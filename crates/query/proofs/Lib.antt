@@ -1,0 +1,4 @@
+pub mod Lent
+pub mod Left
+pub mod Writing
+pub mod Finding
