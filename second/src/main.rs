@@ -1,6 +1,6 @@
 //! The command line of the second program.
 
-use second::check::Checker;
+use second::check::{judge, Checker};
 use second::make::{make, Profile};
 use second::runs::runs;
 use second::text::{perform, Ending, NoWatcher, Transcript, MOST_BYTES};
@@ -18,6 +18,8 @@ second --check   the same output; test every step against the rules, and on
 second --make PROFILE SEED [STEPS]
                  print a made input; PROFILE is one of tiny, deep, cleaning,
                  boards, wild, text; SEED and STEPS are decimals
+second --judge   read stores from standard input, the words of one in a line,
+                 and print for each the number that a call gives: 0 to 3
 second --runs    print the long runs that the definitions are held to
 second --help    print this text
 ";
@@ -28,6 +30,7 @@ enum Command {
     Words,
     Check,
     Make(Profile, u64, usize),
+    Judge,
     Runs,
     Help,
 }
@@ -38,6 +41,7 @@ impl Command {
             [] => Ok(Command::Run),
             ["--words"] => Ok(Command::Words),
             ["--check"] => Ok(Command::Check),
+            ["--judge"] => Ok(Command::Judge),
             ["--runs"] => Ok(Command::Runs),
             ["--help"] => Ok(Command::Help),
             ["--make", profile, seed] => Command::read_make(profile, seed, None),
@@ -83,6 +87,7 @@ fn obey(command: Command) -> io::Result<ExitCode> {
     match command {
         Command::Help => print(HELP.as_bytes())?,
         Command::Make(profile, seed, steps) => print(&make(profile, seed, steps))?,
+        Command::Judge => print(judged(&io::read_to_string(io::stdin().lock())?)?.as_bytes())?,
         Command::Runs => print(runs().as_bytes())?,
         Command::Run => {
             let transcript = perform(&read_input()?, &mut NoWatcher);
@@ -116,6 +121,17 @@ fn print(bytes: &[u8]) -> io::Result<()> {
     let mut out = io::stdout().lock();
     out.write_all(bytes)?;
     out.flush()
+}
+
+/// A line with the number of each store; what isn't a word of 32 bits is an error.
+fn judged(stores: &str) -> io::Result<String> {
+    let mut output = String::new();
+    for line in stores.lines() {
+        let words: Result<Vec<u32>, _> = line.split(' ').map(str::parse).collect();
+        let words = words.map_err(|error| io::Error::new(io::ErrorKind::InvalidData, error))?;
+        output.push_str(&format!("{}\n", judge(&words)));
+    }
+    Ok(output)
 }
 
 fn with_words(transcript: Transcript) -> String {

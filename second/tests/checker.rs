@@ -3,7 +3,9 @@
 mod common;
 
 use common::{Checked, CLEAN, INSPECT};
-use second::check::{test_demands, test_sound, test_step, Done, Reading, Reported, Snapshot};
+use second::check::{
+    judge, test_demands, test_sound, test_step, Done, Reading, Reported, Snapshot,
+};
 use second::words::words_of;
 
 /// Where words of the example stand: pages, memo slots and boards.
@@ -194,4 +196,26 @@ fn a_map_that_does_not_agree() {
     let reading = Reading::of(&words_of(&example().store)).expect("words with a meaning");
     let said = test_demands(&reading, &Reported::new()).expect_err("another map");
     assert!(said.contains("last reports"));
+}
+
+#[test]
+fn the_lowest_number_is_given() {
+    let sound = words_of(&example().store);
+    let judged = |place: usize, word: u32| {
+        let mut words = sound.clone();
+        words[place] = word;
+        judge(&words)
+    };
+    assert_eq!(judge(&sound), 0);
+    assert_eq!(judge(&sound[..15]), 2);
+    assert_eq!(judge(&sound[..sound.len() - 1]), 2);
+    for (place, word) in [(5, 0), (5, 193), (7, 0), (7, 1025), (9, 33)] {
+        assert_eq!(judged(place, word), 1);
+    }
+    for place in [0, 4, 6, 8, 10, 15] {
+        assert_eq!(judged(place, 7), 2);
+    }
+    for (place, word) in [(1, 0), (2, 16), (3, 0), (3, 6)] {
+        assert_eq!(judged(place, word), 3);
+    }
 }

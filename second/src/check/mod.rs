@@ -5,11 +5,13 @@
 
 mod changes;
 mod expected;
+mod judge;
 mod layout;
 mod reading;
 mod sound;
 mod upkeep;
 
+pub use judge::judge;
 pub use reading::Reading;
 pub use sound::test_sound;
 

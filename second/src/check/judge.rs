@@ -1,0 +1,25 @@
+//! The number that a lent store's words alone decide: 0, 1, 2 or 3.
+
+use super::layout::parts;
+use super::reading::Reading;
+use super::sound::test_sound;
+
+/// Looks for the numbers in the order of the table; under 16 words the counts can't be read, which gives 2.
+pub fn judge(words: &[u32]) -> u32 {
+    if words.len() < 16 {
+        return 2;
+    }
+    let in_range = (1..=192).contains(&words[5]) && (1..=1024).contains(&words[7]);
+    if !in_range || words[9] > 32 {
+        return 1;
+    }
+    if parts(words).is_err() {
+        return 2;
+    }
+    let sound = Reading::of(words).and_then(|reading| test_sound(&reading));
+    if sound.is_ok() {
+        0
+    } else {
+        3
+    }
+}
