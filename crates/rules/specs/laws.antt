@@ -17,3 +17,4 @@ pub mod Parts
 pub mod Memo
 pub mod Numbers
 pub mod Noting
+pub mod Obsolete

@@ -51,7 +51,7 @@ pub record AcceptedClosing (s : Store) (x : Step) : Type 0 where
   pub opened : is-open (board-at s (x .a)) ≡ true
 
 module _ (s : Store) (x : Step) (e : refusal s x ≡ 0) where
-  in-its-form : in-form x ≡ true
+  pub in-its-form : in-form x ≡ true
   unfolding refusal
   in-its-form = not-false _ (unmet _ (omega arith) e .0)
 

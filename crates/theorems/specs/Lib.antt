@@ -14,4 +14,12 @@ pub mod Withdraw
 pub mod Report
 pub mod OpenClose
 pub mod BoardsAfter
+pub mod Shed
+pub mod Inspect
+pub mod Clean
 pub mod StepKept
+pub mod EveryStep
+pub mod Garbage
+pub mod Progress
+pub mod Sweep
+pub mod Tidied

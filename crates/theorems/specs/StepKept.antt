@@ -10,10 +10,12 @@ use Rattle.rules.specs.Boards.{is-open}
 use Rattle.rules.specs.Store.{Store, board-at}
 use Rattle.rules.specs.Live.{live, row-inserted, row-removed}
 use Rattle.rules.specs.Sound.{sound}
-use Rattle.rules.specs.Steps.{Step, Effect, Done, its-train, reported-row, refusal, report, withdraw, open-board, close-board, effect, done, step}
+use Rattle.rules.specs.Steps.{Step, Effect, Done, its-train, reported-row, refusal, report, withdraw, clean, inspect, open-board, close-board, effect, done, step}
 use Rattle.theorems.specs.BoardsAfter.{open-shown}
 use Rattle.theorems.specs.Report.{report-sound, report-live}
 use Rattle.theorems.specs.Withdraw.{withdraw-sound, withdraw-live}
+use Rattle.theorems.specs.Inspect.{inspect-sound, inspect-live}
+use Rattle.theorems.specs.Clean.{clean-sound, clean-live}
 use Rattle.theorems.specs.OpenClose.{open-only, open-sound, close-only, close-sound}
 
 -- ---- what a step answers and leaves
@@ -71,6 +73,15 @@ module _ (s : Store) (x : Step) (e : sound s ≡ true) where
   pub step-kept-withdrawal : x .kind ≡ 2 → refusal s x ≡ 0 → StepKept s x (row-removed (its-train x) (live s))
   unfolding effect
   step-kept-withdrawal k a = kept-by s x (withdraw s x) a (ap (λ n. effect n s x) k) (withdraw-sound s x e k a) (withdraw-live s x e k a)
+
+  -- cleaning and inspecting leave the live list
+  pub step-kept-clean : x .kind ≡ 3 → refusal s x ≡ 0 → StepKept s x (live s)
+  unfolding effect
+  step-kept-clean k a = kept-by s x (clean s) a (ap (λ n. effect n s x) k) (clean-sound s e) (clean-live s e)
+
+  pub step-kept-inspect : x .kind ≡ 4 → refusal s x ≡ 0 → StepKept s x (live s)
+  unfolding effect
+  step-kept-inspect k a = kept-by s x (inspect s) a (ap (λ n. effect n s x) k) (inspect-sound s e) (inspect-live s e)
 
   -- opening and closing a board leave the live list
   pub step-kept-opening : x .kind ≡ 5 → refusal s x ≡ 0 → StepKept s x (live s)

@@ -26,6 +26,12 @@ unfolding keep
 keep-all f none = refl
 keep-all f (more h a) = rw (h, keep-all f a)
 
+-- where none pass, none are
+pub keep-none : {A : Type 0} (f : A → Bool) {xs : List A} → All (λ x. f x ≡ false) xs → keep f xs ≡ []
+unfolding keep
+keep-none f none = refl
+keep-none f (more h a) = rw (h, keep-none f a)
+
 -- those that are kept are no more than there were
 pub keep-fewer : {A : Type 0} (f : A → Bool) (xs : List A) → length (keep f xs) ≤ length xs
 unfolding keep

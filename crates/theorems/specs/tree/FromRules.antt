@@ -18,8 +18,9 @@ use Rattle.rules.specs.Sound.{is-free}
 use Rattle.rules.specs.Views.{InnerPlace, Levelled, Filled}
 use Rattle.rules.specs.laws.All.{All, none, more, head-of, tail-of, all-map, all-zip, all-append, all-mapped, all-unmapped, map-back, always}
 use Rattle.rules.specs.laws.Order.{_~_, _then_, same, back, distinct-reordered}
+use Rattle.rules.specs.laws.Counts.{count-append}
 use Rattle.theorems.specs.TreeSound.{TreeSound}
-use Rattle.theorems.specs.tree.Numbers.{head-off, distinct-back, from-distinct, count-append, once-each}
+use Rattle.theorems.specs.tree.Numbers.{head-off, distinct-back, from-distinct, once-each}
 use Rattle.theorems.specs.tree.Items.{Item, extent, atoms, numbers, Full}
 use Rattle.theorems.specs.tree.Budget.{root-least}
 use Rattle.theorems.specs.tree.Pages.{frees, frees-inside, count-frees}
@@ -121,7 +122,7 @@ module _ (s : Store) (R : TreeSound s) (l : ℕ) (el : s .levels ≡ suc l) wher
       (all-append (all-map (frees-inside ps) λ n f. omega (arith, f .1)) (all-map low λ n h. omega arith))
       λ n low high.
       (let c = sym (reached-count s the-top its-root el top-stands n) ∙ R .rule1 .once n (omega arith) in
-      count-append n (frees ps) N ∙ ap (λ z. z + count (eqb n) N) (count-frees ps n (omega arith)) ∙ both-one (is-free (page-at ps (page-no n))) (count (eqb n) N) c)
+      count-append (eqb n) (frees ps) N ∙ ap (λ z. z + count (eqb n) N) (count-frees ps n (omega arith)) ∙ both-one (is-free (page-at ps (page-no n))) (count (eqb n) N) c)
 
   top-rooted : Rooted 2 the-top
   unfolding atoms flatMap read

@@ -15,7 +15,8 @@ use Rattle.rules.specs.Sound.{is-free}
 use Rattle.rules.specs.laws.All.{head-of}
 use Rattle.rules.specs.laws.Lists.{Distinct}
 use Rattle.rules.specs.laws.Order.{_~_, _then_, back, same, both, rear, distinct-reordered, count-reordered}
-use Rattle.theorems.specs.tree.Numbers.{distinct-back, distinct-cross, from-distinct, count-append, count-from}
+use Rattle.rules.specs.laws.Counts.{count-append}
+use Rattle.theorems.specs.tree.Numbers.{distinct-back, distinct-cross, from-distinct, count-from}
 use Rattle.theorems.specs.tree.Items.{Item, Atom, atoms-of, numbers, Thick, Full}
 use Rattle.theorems.specs.tree.Budget.{root-least}
 use Rattle.theorems.specs.tree.Pages.{page-other, page-same, put-length, used-inside, frees, frees-freed, count-frees}
@@ -57,7 +58,7 @@ pub laid-count : (ps : List Page) (T : Top) (n : ℕ) → Laid ps T [] → n < l
     → one-if (is-free (page-at ps (page-no n))) + count (eqb n) (numbers (atoms-top T)) ≡ 1
 laid-count ps T n L h =
     let a = count-reordered (eqb n) (laid-once ps T L) ∙ count-from n 0 (length ps) (omega arith) (omega arith) in
-    omega (arith, count-append n (frees ps) (numbers (atoms-top T)), count-frees ps n h)
+    omega (arith, count-append (eqb n) (frees ps) (numbers (atoms-top T)), count-frees ps n h)
 
 -- a used page is one of the tree's
 pub laid-used : (ps : List Page) (T : Top) (p : PageNo) → Laid ps T [] → is-free (page-at ps p) ≡ false → count (eqb (p .0)) (numbers (atoms-top T)) ≡ 1

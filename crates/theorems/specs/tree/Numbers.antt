@@ -50,11 +50,6 @@ from-distinct n zero = d-none
 from-distinct n (suc k) = d-more (from-all (suc n) k λ i low high. λ (e : i ≡ n). omega arith) (from-distinct (suc n) k)
 
 -- ---- counted
-pub count-append : (p : ℕ) (a b : List ℕ) → count (eqb p) (a ++ b) ≡ count (eqb p) a + count (eqb p) b
-unfolding count
-count-append p [] b = omega arith
-count-append p (x ∷ a) b = omega (arith, count-append p a b)
-
 -- what isn't there is counted 0 times, and the other way round
 pub off-count : (p : ℕ) {xs : List ℕ} → Off p xs → count (eqb p) xs ≡ 0
 unfolding count

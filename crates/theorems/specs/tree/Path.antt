@@ -14,7 +14,7 @@ use Rattle.rules.specs.Store.{Page, page-no, child-of, no-place, page-at}
 use Rattle.rules.specs.Cleaning.{reached-under, among, path-to}
 use Rattle.rules.specs.laws.All.{All, none, more, head-of, all-map, flat-append}
 use Rattle.rules.specs.laws.Order.{all-reordered, picked}
-use Rattle.theorems.specs.tree.Numbers.{count-append}
+use Rattle.rules.specs.laws.Counts.{count-append}
 use Rattle.theorems.specs.tree.Items.{Item, no-mark, no-node, Atom, number-of, atoms, atoms-of, numbers}
 use Rattle.theorems.specs.tree.Stands.{place, page-of, Stands, number-is}
 use Rattle.theorems.specs.tree.Descent.{reached-is, numbers-leaf}
@@ -57,7 +57,7 @@ first-has : {X : Type 0} (q : PageNo) (A : X → List Atom) (d : X) (xs : List X
 unfolding flatMap count
 first-has q A d [] h = absurd (omega arith)
 first-has q A d (x ∷ xs) h =
-    let c = ap (count (eqb (q .0))) (flat-append number-of (A x) (flatMap A xs)) ∙ count-append (q .0) (numbers (A x)) (numbers (flatMap A xs)) in
+    let c = ap (count (eqb (q .0))) (flat-append number-of (A x) (flatMap A xs)) ∙ count-append (eqb (q .0)) (numbers (A x)) (numbers (flatMap A xs)) in
     hit-later (λ y. has q (numbers (A y))) d x xs λ e. first-has q A d xs (omega (arith, c, leb-false 1 (count (eqb (q .0)) (numbers (A x))) e))
 
 -- ---- down to a leaf
