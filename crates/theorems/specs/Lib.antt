@@ -19,6 +19,9 @@ pub mod Inspect
 pub mod Clean
 pub mod StepKept
 pub mod EveryStep
+pub mod History
+pub mod LiveHistory
+pub mod Demands
 pub mod Garbage
 pub mod Progress
 pub mod Sweep
