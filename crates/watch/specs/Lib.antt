@@ -1,0 +1,3 @@
+-- Rule 8 of one board, and where a board's words are lent from.
+pub mod Watched
+pub mod Lent
