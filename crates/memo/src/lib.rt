@@ -28,7 +28,7 @@ fn unused() -> Slot
 }
 
 // The slot at a place, used or not; past the end there are unused ones.
-fn slot_at(memo: &[u32], i: usize) -> Slot
+pub fn slot_at(memo: &[u32], i: usize) -> Slot
     requires { ⌜ Whole (now memo) ⌝ }
     ensures { λ r. ⌜ r ≡ slot-at (now (memo .entry)) i ⌝ }
 {

@@ -1,0 +1,7 @@
+pub mod Tests
+pub mod Keys
+pub mod Slots
+pub mod Marks
+pub mod Gather
+pub mod Pages
+pub mod Whole
