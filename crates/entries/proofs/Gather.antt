@@ -1,5 +1,5 @@
 -- The pass over the entries: one more entry, and what is gathered then. Assumes nothing.
-use Prim.Native.Nat.{ℕ, zero, suc, _+_, _*_, _≤_, _<_}
+use Prim.Native.Nat.{ℕ, zero, suc, _+_, _≤_, _<_}
 use native.Mathlib.Omega.{arith}
 use native.Mathlib.Nat.{add-zero, not-suc-le-zero, le-of-suc-le-suc}
 use native.Mathlib.Numerals.{add-one}
@@ -10,7 +10,6 @@ use lib.Dec.{eqb}
 use lib.ListN.{length, getD, take, set, length-append, length-set, length-map, List·getD-eq-default}
 use lib.Seq.{take-suc, take-suc-set, take-all, length-take-le, getD-set-same, getD-set-other}
 use borrow.Author.Tests.{eqb-true, eqb-false, eq-eqb, ne-eqb}
-use Rattle.rules.specs.declared.Train.{Train}
 use Rattle.rules.specs.declared.Stamp.{Stamp}
 use Rattle.rules.specs.declared.Entry.{Entry}
 use Rattle.rules.specs.declared.Slot.{Slot}
@@ -22,10 +21,10 @@ use Rattle.rules.specs.laws.All.{flat-append}
 use Rattle.rules.specs.laws.Kept.{keep-append}
 use Rattle.sort.specs.Laws.{order}
 use Rattle.rules.specs.Memo.{look-up}
-use Rattle.memo.specs.Slots.{slots-in}
 use Rattle.theorems.specs.Leaves.{MarkedEntry, with-mark, marked, marked-entries, leaf-entries-count}
 use Rattle.entries.specs.declared.Tally.{Tally}
-use Rattle.entries.specs.Passes.{most, held-fine, noted-fine, entry-fine, old-place, counter-of, key-by, key-of, stamp-of, counters, counted, Gathered, OneMore, Room}
+use Rattle.entries.specs.Passes.{most, held-fine, noted-fine, entry-fine, old-place, counter-of, key-by, key-of, stamp-of, counters, counted}
+use Rattle.entries.specs.State.{Gathered, OneMore, Room}
 
 pub small : {t : Tally} {stamps keys counts : List ℕ} → Room t stamps keys counts → (i : ℕ) → getD counts i 0 ≤ most
 small r i = r .counts-small i

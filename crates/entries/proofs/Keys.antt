@@ -8,9 +8,9 @@ use mathlib.Core.List.{List, [], _∷_, _++_}
 use lib.ListN.{length, getD, take, drop, length-drop}
 use lib.Seq.{drop-cons, take-at, length-take-le}
 use Rattle.rules.specs.Lists.{every, distinct}
-use Rattle.rules.specs.laws.Tests.{not-both, not-fails}
-use Rattle.rules.specs.laws.All.{All, none, more, head-of, all-map}
-use Rattle.rules.specs.laws.Lists.{Distinct, d-none, d-more, distinct-holds, distinct-test}
+use Rattle.rules.specs.laws.Tests.{not-both}
+use Rattle.rules.specs.laws.All.{All, more, head-of, all-map}
+use Rattle.rules.specs.laws.Lists.{d-more, distinct-holds, distinct-test}
 use Rattle.rules.specs.laws.Rows.{first-apart, rest-apart}
 use Rattle.rules.specs.laws.Order.{distinct-reordered, length-reordered, back}
 use Rattle.sort.specs.Sorted.{sorted}

@@ -1,10 +1,10 @@
 -- The pass over the pages' marks, from the last page to the first. Assumes nothing.
-use Prim.Native.Nat.{ℕ, _+_, _*_, _-_, _≤_, _<_}
+use Prim.Native.Nat.{ℕ, _-_, _≤_, _<_}
 use native.Mathlib.Omega.{arith}
-use mathlib.Core.Path.{_≡_, refl, sym, _∙_, ap}
+use mathlib.Core.Path.{_≡_, _∙_, ap}
 use mathlib.Core.Bool.{Bool, true, _&&_}
 use mathlib.Core.List.{List}
-use lib.ListN.{length, getD, drop, drop-of-length-le}
+use lib.ListN.{getD, drop, drop-of-length-le}
 use Rattle.rules.specs.declared.Stamp.{Stamp}
 use Rattle.rules.specs.Lists.{every}
 use Rattle.rules.specs.Store.{page-no, free-page, page-at, pages-of, store-of}
@@ -12,7 +12,8 @@ use Rattle.rules.specs.laws.Places.{drop-before, from-first}
 use Rattle.page.specs.declared.Page.{Page}
 use Rattle.page.specs.Struct.{struct-at, contents}
 use Rattle.page.specs.Laws.{contents-at, pages-length}
-use Rattle.entries.specs.Passes.{mark-fine, Known}
+use Rattle.entries.specs.Passes.{mark-fine}
+use Rattle.entries.specs.State.{Known}
 
 module _ (w : List ℕ) (p : ℕ) (next : Stamp) (K : Known w p next) where
   pub pages-are : pages-of p (drop 16 w) ≡ store-of w .pages

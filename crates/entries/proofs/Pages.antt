@@ -18,7 +18,8 @@ use Rattle.page.specs.Laws.{struct-there, laid-place}
 use Rattle.theorems.specs.Leaves.{with-mark, marked}
 use Rattle.entries.specs.declared.Tally.{Tally}
 use Rattle.entries.specs.Given.{given-fits}
-use Rattle.entries.specs.Passes.{Passing, Before, Fresh, Gathered, OneMore, Room, counters, counted}
+use Rattle.entries.specs.Passes.{counters, counted}
+use Rattle.entries.specs.State.{Passing, Before, Fresh, Gathered, OneMore, Room}
 use Rattle.entries.proofs.Gather.{room-here, gathered-more, passed, passed-other, passed-all, passed-few, passed-more, passed-none}
 
 -- page i of the store

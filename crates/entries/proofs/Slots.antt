@@ -1,35 +1,19 @@
 -- The pass over the memo: each slot with its counter, up to the first unused one. Assumes nothing.
-use Prim.Native.Nat.{ℕ, zero, suc, _+_, _≤_, _<_}
-use native.Mathlib.Omega.{arith}
+use Prim.Native.Nat.{ℕ, suc, _+_, _≤_, _<_}
 use native.Mathlib.Numerals.{add-one}
 use mathlib.Core.Path.{_≡_, refl, sym, _∙_, ap}
 use mathlib.Core.Bool.{Bool, true, false, not}
-use mathlib.Core.List.{List, [], _∷_, flatMap, append-nil}
+use mathlib.Core.List.{List, [], _∷_}
 use lib.ListN.{length, getD, drop, drop-of-length-le}
 use lib.Seq.{drop-cons}
 use borrow.Author.Tests.{not-true, not-false}
 use Rattle.rules.specs.declared.Stamp.{Stamp}
 use Rattle.rules.specs.declared.Slot.{Slot}
-use Rattle.rules.specs.Store.{slot-of, slot-words}
-use Rattle.rules.specs.laws.All.{always}
-use Rattle.rules.specs.laws.Words.{no-slot, flat-length, parts-read, slot-words-length, slot-read, all-slots, padded-slots}
-use Rattle.rules.specs.laws.Memo.{slot-among, used-inside, unused-past}
-use Rattle.memo.specs.Slots.{room, table, slots-in, MemoWords, slot-at}
+use Rattle.rules.specs.laws.Words.{no-slot}
+use Rattle.rules.specs.laws.Memo.{used-inside, unused-past}
+use Rattle.memo.specs.Laws.{memo-slot}
+use Rattle.memo.specs.Slots.{slots-in, MemoWords, slot-at}
 use Rattle.entries.specs.Passes.{slot-fine, slots-fine}
-
-table-of-words : (xs : List Slot) → table (flatMap slot-words xs) ≡ xs
-unfolding table
-table-of-words xs =
-    let e : room (flatMap slot-words xs) ≡ length xs = omega (arith, flat-length slot-words 3 (always slot-words-length xs)) in
-    rw e (rw append-nil at (parts-read slot-words 3 slot-of (always slot-words-length xs) (always slot-read xs) []))
-
--- what is read at a place is the used slot there, or an unused one
-slot-here : (m : List ℕ) → MemoWords m → (i : ℕ) → slot-at m i ≡ getD (slots-in m) i no-slot
-slot-here m w i =
-    let k = room m in
-    let ms = slots-in m in
-    let e : table m ≡ all-slots k ms = ap table (sym (w .written) ∙ padded-slots k ms (w .in-range .used-most)) ∙ table-of-words (all-slots k ms) in
-    ap (λ l. getD l i no-slot) e ∙ slot-among k ms i
 
 no-counters : (next : Stamp) (ms : List Slot) → true ≡ slots-fine next [] ms
 unfolding slots-fine
@@ -43,7 +27,7 @@ module _ (next : Stamp) (cs : List ℕ) (m : List ℕ) (w : MemoWords m) (i : �
 
   module _ (s : Slot) (its : s ≡ slot-at m i) where
     mine : s ≡ getD (slots-in m) i no-slot
-    mine = its ∙ slot-here m w i
+    mine = its ∙ memo-slot m w i
 
     pub slots-unused : s .train .0 ≡ 0 → true ≡ slots-fine next cs (slots-in m)
     unfolding slots-fine

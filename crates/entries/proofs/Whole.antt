@@ -1,8 +1,8 @@
 -- All passes together: what is known at each, and what each way out says of the whole. Assumes nothing.
 use Prim.Native.Nat.{ℕ, _+_, _*_, _-_, _≤_, _<_}
 use native.Mathlib.Omega.{arith}
-use mathlib.Core.Path.{_≡_, refl, sym, _∙_, ap}
-use mathlib.Core.Bool.{Bool, true, false, not, _&&_, and-true}
+use mathlib.Core.Path.{_≡_, sym, _∙_, ap}
+use mathlib.Core.Bool.{Bool, true, false, not, and-true}
 use mathlib.Core.List.{List, [], _∷_}
 use mir.Syntax.{w64}
 use mir.Val.{Fits}
@@ -11,7 +11,7 @@ use lib.ListN.{length, getD, take, drop}
 use borrow.Author.Tests.{not-true, not-false, le-leb, lt-leb}
 use Rattle.rules.specs.declared.Stamp.{Stamp}
 use Rattle.rules.specs.Lists.{all-of, every, distinct}
-use Rattle.rules.specs.Store.{stamp, pages-of, memo-words, memo-start, boards-start, store-length, words, store-of}
+use Rattle.rules.specs.Store.{stamp, pages-of, memo-words, memo-start, boards-start, store-length, store-of}
 use Rattle.rules.specs.Live.{held-count}
 use Rattle.rules.specs.laws.Memo.{in-order}
 use Rattle.rules.specs.laws.Words.{words-length}
@@ -22,7 +22,8 @@ use Rattle.page.specs.Laws.{pages-length}
 use Rattle.theorems.specs.Leaves.{marked}
 use Rattle.entries.specs.declared.Tally.{Tally}
 use Rattle.entries.specs.Given.{Trusted, given-fits}
-use Rattle.entries.specs.Passes.{most, counters, mark-fine, slot-fine, slots-fine, obsolete-in, noted-test, entries-test, entries-rules, Gathered, Known, Passing}
+use Rattle.entries.specs.Passes.{most, counters, mark-fine, slot-fine, slots-fine, obsolete-in, noted-test, entries-test, entries-rules}
+use Rattle.entries.specs.State.{Gathered, Known, Passing}
 use Rattle.entries.specs.Counters.{counter-slot, slots-counted}
 use Rattle.entries.specs.Decided.{entries-decided}
 use Rattle.entries.proofs.Gather.{marked-length}

@@ -10,11 +10,11 @@ use borrow.Author.Tests.{leb-true, ltb-true, eqb-true, eq-eqb, le-leb, lt-ltb, n
 use Rattle.rules.specs.declared.Stamp.{Stamp}
 use Rattle.rules.specs.declared.Slot.{Slot}
 use Rattle.rules.specs.declared.Entry.{Entry}
-use Rattle.rules.specs.Lists.{all-of, every, count, keep}
+use Rattle.rules.specs.Lists.{every, count, keep}
 use Rattle.rules.specs.Store.{Page, Store, train-of}
 use Rattle.rules.specs.Memo.{look-up, latest-by, is-latest, is-obsolete}
 use Rattle.rules.specs.Live.{held, held-count}
-use Rattle.rules.specs.Sound.{entry-in-range, not-above, obsolete-of, rule4, rule5, rule6, rule7}
+use Rattle.rules.specs.Sound.{not-above, obsolete-of, rule6}
 use Rattle.rules.specs.Views.{EntryInRange, Given, NotAbove, proper-box-holds, proper-box-test, entry-in-range-holds, entry-in-range-test, not-above-holds, not-above-test, rule4-holds, rule4-test, rule5-holds, rule5-test, rule7-holds, rule7-test}
 use Rattle.rules.specs.laws.Tests.{and-left, and-right, and-both, or-else, else-or, equal-then, then-equal, each, each-all-of, _also_}
 use Rattle.rules.specs.laws.All.{All, none, more, all-map, all-zip, all-mapped, all-unmapped, every-holds, every-test, head-of}

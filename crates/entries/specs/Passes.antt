@@ -1,10 +1,9 @@
 -- What each pass computes: the tests of an entry, of a page's mark and of a slot, and what is gathered from the entries.
-use Prim.Native.Nat.{ℕ, _+_, _*_, _≤_, _<_}
-use mathlib.Core.Path.{_≡_}
+use Prim.Native.Nat.{ℕ, _+_, _*_}
 use mathlib.Core.Bool.{Bool, true, not, cond, _&&_, _||_}
 use mathlib.Core.List.{List, [], _∷_, map}
 use lib.Dec.{eqb, leb, ltb}
-use lib.ListN.{length, getD, take, set, replicate}
+use lib.ListN.{length}
 use Rattle.rules.specs.declared.Stamp.{Stamp}
 use Rattle.rules.specs.declared.Entry.{Entry}
 use Rattle.rules.specs.declared.Slot.{Slot}
@@ -12,14 +11,11 @@ use Rattle.rules.specs.declared.LookUp.{LookUp}
 use Rattle.rules.specs.declared.LookUp.the-variants.{Absent, Found}
 use Rattle.rules.specs.Lists.{all-of, every, count, distinct}
 use Rattle.rules.specs.Boxes.{proper-box}
-use Rattle.rules.specs.Store.{Page, Store, train-of, store-of}
+use Rattle.rules.specs.Store.{Page, Store, train-of}
 use Rattle.rules.specs.Memo.{look-up, latest-by, is-obsolete}
 use Rattle.rules.specs.Live.{held, held-count}
 use Rattle.rules.specs.Sound.{is-leaf, is-inner, entry-in-range, not-above, rule4, rule5, rule6, rule7}
-use Rattle.memo.specs.Slots.{MemoWords, slots-in}
 use Rattle.theorems.specs.Leaves.{MarkedEntry, marked}
-use Rattle.entries.specs.declared.Tally.{Tally}
-use Rattle.entries.specs.Given.{Trusted}
 
 -- ---- tests
 -- a leaf's mark is 1 to the next stamp, an inner page's is 0
@@ -89,29 +85,9 @@ counted memo ks i = count (λ k. eqb (counter-of memo k) i) ks
 unfoldable pub obsolete-in : List Slot → List MarkedEntry → Slot → ℕ
 obsolete-in memo ks m = count (λ k. eqb (train-of (k .entry) .0) (m .train .0) && is-obsolete memo (k .entry)) ks
 
--- ---- the state of the pass over the entries
 -- how many entries the buffers take
 abbrev pub most : ℕ
 most = 576
-
--- after the entries ks
-pub record Gathered (s : Store) (ks : List MarkedEntry) (t : Tally) (stamps keys counts : List ℕ) : Type 0 where
-  pub many : t .count ≡ length ks
-  pub fine : t .sound ≡ every (entry-fine (s .next) (s .memo)) ks
-  pub stamps-long : length stamps ≡ most
-  pub stamps-so-far : take (length ks) stamps ≡ map stamp-of ks
-  pub keys-long : length keys ≡ most
-  pub keys-so-far : take (length ks) keys ≡ map (key-of (s .memo)) ks
-  pub counts-long : length counts ≡ counters
-  pub counts-so-far : (i : ℕ) → i < counters → getD counts i 0 ≡ counted (s .memo) ks i
-
--- one entry more, t′ and the primed lists after it
-pub record OneMore (next : Stamp) (memo : List Slot) (k : MarkedEntry) (t t′ : Tally) (stamps stamps′ keys keys′ counts counts′ : List ℕ) : Type 0 where
-  pub many : t′ .count ≡ t .count + 1
-  pub fine : t′ .sound ≡ (t .sound && entry-fine next memo k)
-  pub stamps-set : stamps′ ≡ set stamps (t .count) (stamp-of k)
-  pub keys-set : keys′ ≡ set keys (t .count) (key-of memo k)
-  pub counts-set : counts′ ≡ set counts (counter-of memo k) (getD counts (counter-of memo k) 0 + 1)
 
 -- ---- all that is tested, in turn
 unfoldable pub noted-test : Store → Bool
@@ -135,34 +111,3 @@ entries-test s =
 -- what is to be decided: held entries are in range, and rules 4 to 7 hold
 abbrev pub entries-rules : Store → Bool
 entries-rules s = all-of (every entry-in-range (held s) ∷ rule4 s ∷ rule5 s ∷ rule6 s ∷ rule7 s ∷ [])
-
--- there is room for one entry more
-pub record Room (t : Tally) (stamps keys counts : List ℕ) : Type 0 where
-  pub stamps-room : t .count < length stamps
-  pub keys-room : t .count < length keys
-  pub counts-small : (i : ℕ) → getD counts i 0 ≤ most
-
--- ---- what the code has read off the store before it goes through the pages
-pub record Known (w : List ℕ) (p : ℕ) (next : Stamp) : Type 0 where
-  pub trusted : Trusted w
-  pub pages-many : p ≡ length (store-of w .pages)
-  pub pages-most : p ≤ 192
-  pub long : 16 + 52 * p ≤ length w
-  pub next-is : next ≡ store-of w .next
-
--- and lent the memo, of at most so many entries as the buffers take
-pub record Passing (w m : List ℕ) (p : ℕ) (next : Stamp) : Type 0 where
-  pub known : Known w p next
-  pub memo-given : MemoWords m
-  pub memo-is : slots-in m ≡ store-of w .memo
-  pub few : held-count (store-of w .pages) ≤ most
-
--- what is gathered before page i
-abbrev pub Before : List ℕ → ℕ → Tally → List ℕ → List ℕ → List ℕ → Type 0
-Before w i t stamps keys counts = Gathered (store-of w) (marked (take i (store-of w .pages))) t stamps keys counts
-
--- buffers as they are at first
-pub record Fresh (stamps keys counts : List ℕ) : Type 0 where
-  pub stamps-long : length stamps ≡ most
-  pub keys-long : length keys ≡ most
-  pub zeros : counts ≡ replicate counters 0

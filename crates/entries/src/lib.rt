@@ -8,19 +8,17 @@ use rules::Stamp;
 use rules::Train;
 ghost use mathlib.Core.Path.{_≡_};
 ghost use mathlib.Core.Bool.{_&&_};
-ghost use mathlib.Core.List.{[], _∷_};
 ghost use Prim.Native.Nat.{_+_, _≤_, _<_};
-ghost use lib.ListN.{length, getD, set, take, replicate};
-ghost use Rattle.rules.specs.Lists.{all-of, every, distinct};
+ghost use lib.ListN.{length, getD, set, take};
+ghost use Rattle.rules.specs.Lists.{every, distinct};
 ghost use Rattle.rules.specs.Store.{store-of, memo-words};
-ghost use Rattle.rules.specs.Live.{held, held-count};
-ghost use Rattle.rules.specs.Sound.{entry-in-range, rule4, rule5, rule6, rule7};
 ghost use Rattle.theorems.specs.Leaves.{marked, with-mark};
 ghost use Rattle.memo.specs.Slots.{MemoWords, slots-in};
 ghost use Rattle.page.specs.Struct.{contents};
 ghost use Rattle.sort.specs.Laws.{InOrder};
 ghost use Rattle.entries.specs.Given.{Trusted};
 ghost use Rattle.entries.specs.Passes as spec;
+ghost use Rattle.entries.specs.State as state;
 
 // How many entries the largest store may hold.
 const MOST: usize = 576;
@@ -29,9 +27,9 @@ const MOST: usize = 576;
 const COUNTERS: usize = 1024;
 
 // What the entries passed so far come to: whether each is sound, and how many they are.
-pub struct Tally {
-    pub sound: bool,
-    pub count: usize,
+struct Tally {
+    sound: bool,
+    count: usize,
 }
 
 // A word as a key: the cast of a field would ask anew that it fits.
@@ -41,6 +39,7 @@ fn wide(x: u32) -> u64
     x as u64
 }
 
+// Both of two answers, as a call: where the branches of `&&` meet, the tests would not be known any more.
 fn both(a: bool, b: bool) -> bool
     ensures { λ r. ⌜ r ≡ (a && b) ⌝ }
 {
@@ -70,7 +69,7 @@ fn mark_fine(g: Page, next: Stamp) -> bool
 
 // Every page's mark is as rule 7 says, looked at from the last page to the first.
 fn marks_fine(store: &[u32], p: usize, next: Stamp) -> bool
-    requires { ⌜ spec.Known (now store) p next ⌝ }
+    requires { ⌜ state.Known (now store) p next ⌝ }
     ensures { λ r. ⌜ r ≡ every (spec.mark-fine next) (store-of (now (store .entry)) .pages) ⌝ }
 {
     let mut fine = true;
@@ -172,8 +171,8 @@ fn note_entry(
     counts: &mut [u32],
 ) -> Tally
     requires { ⌜ MemoWords (now memo) ⌝ }
-    requires { ⌜ spec.Room t (now stamps) (now keys) (now counts) ⌝ }
-    ensures { λ r. ⌜ spec.OneMore next (slots-in (now (memo .entry))) (with-mark mark e) t r (now (stamps .entry)) (now (stamps .exit)) (now (keys .entry)) (now (keys .exit)) (now (counts .entry)) (now (counts .exit)) ⌝ }
+    requires { ⌜ state.Room t (now stamps) (now keys) (now counts) ⌝ }
+    ensures { λ r. ⌜ state.OneMore next (slots-in (now (memo .entry))) (with-mark mark e) t r (now (stamps .entry)) (now (stamps .exit)) (now (keys .entry)) (now (keys .exit)) (now (counts .entry)) (now (counts .exit)) ⌝ }
 {
     let n = t.count;
     let stamp = e.stamp;
@@ -201,9 +200,9 @@ fn note_page(
     keys: &mut [u64],
     counts: &mut [u32],
 ) -> Tally
-    requires { ⌜ spec.Passing (now store) (now memo) p next × (i < p) ⌝ }
-    requires { ⌜ spec.Before (now store) i t (now stamps) (now keys) (now counts) ⌝ }
-    ensures { λ r. ⌜ spec.Before (now (store .entry)) (i + 1) r (now (stamps .exit)) (now (keys .exit)) (now (counts .exit)) ⌝ }
+    requires { ⌜ state.Passing (now store) (now memo) p next × (i < p) ⌝ }
+    requires { ⌜ state.Before (now store) i t (now stamps) (now keys) (now counts) ⌝ }
+    ensures { λ r. ⌜ state.Before (now (store .entry)) (i + 1) r (now (stamps .exit)) (now (keys .exit)) (now (counts .exit)) ⌝ }
 {
     let g = page::page_at(store, p, PageNo(i as u32));
     if g.kind != 1 {
@@ -232,9 +231,9 @@ fn note_pages(
     keys: &mut [u64],
     counts: &mut [u32],
 ) -> Tally
-    requires { ⌜ spec.Passing (now store) (now memo) p next ⌝ }
-    requires { ⌜ spec.Fresh (now stamps) (now keys) (now counts) ⌝ }
-    ensures { λ r. ⌜ spec.Gathered (store-of (now (store .entry))) (marked (store-of (now (store .entry)) .pages)) r (now (stamps .exit)) (now (keys .exit)) (now (counts .exit)) ⌝ }
+    requires { ⌜ state.Passing (now store) (now memo) p next ⌝ }
+    requires { ⌜ state.Fresh (now stamps) (now keys) (now counts) ⌝ }
+    ensures { λ r. ⌜ state.Gathered (store-of (now (store .entry))) (marked (store-of (now (store .entry)) .pages)) r (now (stamps .exit)) (now (keys .exit)) (now (counts .exit)) ⌝ }
 {
     let mut t = Tally {
         sound: true,
@@ -321,7 +320,7 @@ fn slots_fine(memo: &[u32], counts: &[u32], next: Stamp) -> bool
 
 // Each entry and each slot is sound, and neither two stamps nor two keys are equal.
 fn noted_sound(store: &[u32], memo: &[u32], p: usize, next: Stamp) -> bool
-    requires { ⌜ spec.Passing (now store) (now memo) p next ⌝ }
+    requires { ⌜ state.Passing (now store) (now memo) p next ⌝ }
     ensures { λ r. ⌜ r ≡ spec.noted-test (store-of (now (store .entry))) ⌝ }
 {
     let mut stamps = [0u64; MOST];

@@ -17,7 +17,8 @@ use Rattle.rules.specs.Store.{memo-words}
 use Rattle.rules.specs.laws.Words.{no-slot, all-slots}
 use Rattle.rules.specs.laws.Memo.{used-inside, unused-past, one-stays, one-freed}
 use Rattle.memo.specs.Slots.{room, table, slots-in, MemoWords, slot-at, with-slot}
-use Rattle.memo.proofs.Words.{table-put, table-length, put-as-long, memo-table, memo-slot, memo-written}
+use Rattle.memo.specs.Laws.{memo-table, memo-slot}
+use Rattle.memo.proofs.Words.{table-put, table-length, put-as-long, memo-written}
 
 -- ---- the last slot tells whether all are used
 module _ (m : List ℕ) (w : MemoWords m) (h : 1 ≤ room m) (s : Slot) (e : s ≡ slot-at m (room m - 1)) where

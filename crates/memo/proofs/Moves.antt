@@ -16,7 +16,8 @@ use Rattle.rules.specs.Store.{memo-words}
 use Rattle.rules.specs.laws.All.{All, none, more}
 use Rattle.rules.specs.laws.Words.{no-slot, all-slots}
 use Rattle.memo.specs.Slots.{room, table, slots-in, MemoWords, slot-at, with-slot, place-for}
-use Rattle.memo.proofs.Words.{table-put, table-as-long, put-as-long, memo-table, memo-written}
+use Rattle.memo.specs.Laws.{memo-table}
+use Rattle.memo.proofs.Words.{table-put, table-as-long, put-as-long, memo-written}
 use Rattle.memo.proofs.Places.{place-case}
 
 -- what is still to be done gives in the end what was to be done at first

@@ -15,7 +15,7 @@ use Rattle.rules.specs.laws.Tests.{either}
 use Rattle.rules.specs.laws.All.{All, none, more, all-at, all-map}
 use Rattle.rules.specs.laws.Memo.{InOrder, o-none, o-more, used-inside, absent-before, unused-past, in-order}
 use Rattle.rules.specs.laws.Words.{no-slot}
-use Rattle.memo.proofs.Words.{memo-slot}
+use Rattle.memo.specs.Laws.{memo-slot}
 use Rattle.memo.specs.Slots.{place-for, room, MemoWords, slots-in, slot-at}
 
 -- the place among a slot and later ones

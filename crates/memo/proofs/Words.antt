@@ -3,27 +3,17 @@ use Prim.Native.Nat.{ℕ, zero, suc, _+_, _*_, _≤_, _<_}
 use native.Mathlib.Omega.{arith}
 use native.Mathlib.Numerals.{towards-suc}
 use mathlib.Core.Path.{_≡_, refl, sym, _∙_, ap}
-use mathlib.Core.List.{List, [], _∷_, map, flatMap, append-nil}
+use mathlib.Core.List.{List, [], _∷_, map, flatMap}
 use lib.ListN.{length, getD, set, List·getD-eq-default, length-set}
 use Rattle.rules.specs.declared.Slot.{Slot}
 use Rattle.rules.specs.Lists.{cut}
 use Rattle.rules.specs.Store.{memo-words, slot-of, slot-words, train, stamp}
-use Rattle.rules.specs.laws.Words.{no-slot, flat-length, parts-read, slot-words-length, slot-read, all-slots, padded-slots}
-use Rattle.rules.specs.laws.All.{always}
-use Rattle.rules.specs.laws.Memo.{slot-among, set-among}
+use Rattle.rules.specs.laws.Words.{no-slot, all-slots, padded-slots}
+use Rattle.rules.specs.laws.Memo.{set-among}
+use Rattle.memo.specs.Laws.{slots-length, table-of-words, memo-table}
 use Rattle.memo.specs.Slots.{room, Whole, table, slots-in, MemoWords, with-slot}
 
 -- ---- slots written as words
-pub slots-length : (xs : List Slot) → length (flatMap slot-words xs) ≡ 3 * length xs
-slots-length xs = flat-length slot-words 3 (always slot-words-length xs)
-
--- they are read back
-pub table-of-words : (xs : List Slot) → table (flatMap slot-words xs) ≡ xs
-unfolding table
-table-of-words xs =
-    let e : room (flatMap slot-words xs) ≡ length xs = omega (arith, slots-length xs) in
-    rw e (rw append-nil at (parts-read slot-words 3 slot-of (always slot-words-length xs) (always slot-read xs) []))
-
 -- three words further on is one slot further on
 next-slot : (i : ℕ) → 3 * suc i ≡ suc (suc (suc (3 * i)))
 next-slot i = omega arith
@@ -88,15 +78,6 @@ pub slot-past : (m : List ℕ) (i : ℕ) (s : Slot) → Whole m → room m ≤ i
 slot-past m i s w h e = e ∙ sym (List·getD-eq-default (table m) no-slot (omega (arith, table-length m w)))
 
 -- ---- a memo's words
--- its slots are the used ones, then unused ones
-pub memo-table : (m : List ℕ) → MemoWords m → table m ≡ all-slots (room m) (slots-in m)
-memo-table m w =
-    let e : flatMap slot-words (all-slots (room m) (slots-in m)) ≡ m = sym (padded-slots (room m) (slots-in m) (w .in-range .used-most)) ∙ w .written in
-    ap table (sym e) ∙ table-of-words (all-slots (room m) (slots-in m))
-
-pub memo-slot : (m : List ℕ) → MemoWords m → (i : ℕ) → getD (table m) i no-slot ≡ getD (slots-in m) i no-slot
-memo-slot m w i = ap (λ xs. getD xs i no-slot) (memo-table m w) ∙ slot-among (room m) (slots-in m) i
-
 pub memo-put : (m : List ℕ) → MemoWords m → (i : ℕ) (s : Slot) → i < length (slots-in m) → with-slot m i s ≡ memo-words (room m) (set (slots-in m) i s)
 unfolding with-slot
 memo-put m w i s h =

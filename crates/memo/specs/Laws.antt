@@ -1,22 +1,43 @@
 -- A memo's words are words that the functions take; what these promise is then said of the memo.
-use Prim.Native.Nat.{ℕ, _-_, _<_}
+use Prim.Native.Nat.{ℕ, _*_, _-_, _<_}
 use native.Mathlib.Omega.{arith}
-use mathlib.Core.Path.{_≡_, sym, ap}
+use mathlib.Core.Path.{_≡_, sym, _∙_, ap}
 use mathlib.Core.Bool.{Bool}
-use mathlib.Core.List.{List, [], append-nil}
+use mathlib.Core.List.{List, [], append-nil, flatMap}
 use lib.Dec.{leb}
-use lib.ListN.{length}
+use lib.ListN.{length, getD}
 use Rattle.rules.specs.declared.Train.{Train}
 use Rattle.rules.specs.declared.Stamp.{Stamp}
 use Rattle.rules.specs.declared.Slot.{Slot}
 use Rattle.rules.specs.declared.LookUp.{LookUp}
 use Rattle.rules.specs.declared.LookUp.the-variants.{Absent}
-use Rattle.rules.specs.Store.{limit, memo-words}
+use Rattle.rules.specs.Store.{limit, memo-words, slot-words, slot-of}
 use Rattle.rules.specs.Memo.{look-up, noted, lowered, inspected}
 use Rattle.rules.specs.Views.{MemoInRange}
-use Rattle.rules.specs.laws.All.{All}
-use Rattle.rules.specs.laws.Words.{memo-words-length, memo-read}
+use Rattle.rules.specs.laws.All.{All, always}
+use Rattle.rules.specs.laws.Memo.{slot-among}
+use Rattle.rules.specs.laws.Words.{flat-length, memo-words-length, memo-read, all-slots, no-slot, padded-slots, parts-read, slot-words-length, slot-read}
 use Rattle.memo.specs.Slots.{room, table, slots-in, MemoWords, Inspected}
+
+-- slots written as words
+pub slots-length : (xs : List Slot) → length (flatMap slot-words xs) ≡ 3 * length xs
+slots-length xs = flat-length slot-words 3 (always slot-words-length xs)
+
+-- they are read back
+pub table-of-words : (xs : List Slot) → table (flatMap slot-words xs) ≡ xs
+unfolding table
+table-of-words xs =
+    let e : room (flatMap slot-words xs) ≡ length xs = omega (arith, slots-length xs) in
+    rw e (rw append-nil at (parts-read slot-words 3 slot-of (always slot-words-length xs) (always slot-read xs) []))
+
+-- in a memo's words the slots are the used ones, then unused ones
+pub memo-table : (m : List ℕ) → MemoWords m → table m ≡ all-slots (room m) (slots-in m)
+memo-table m w =
+    let e : flatMap slot-words (all-slots (room m) (slots-in m)) ≡ m = sym (padded-slots (room m) (slots-in m) (w .in-range .used-most)) ∙ w .written in
+    ap table (sym e) ∙ table-of-words (all-slots (room m) (slots-in m))
+
+pub memo-slot : (m : List ℕ) → MemoWords m → (i : ℕ) → getD (table m) i no-slot ≡ getD (slots-in m) i no-slot
+memo-slot m w i = ap (λ xs. getD xs i no-slot) (memo-table m w) ∙ slot-among (room m) (slots-in m) i
 
 -- a part of the store's words, say, that is the memo's
 module _ (k : ℕ) (ms : List Slot) (r : MemoInRange k ms) (m : List ℕ) (e : m ≡ memo-words k ms) where

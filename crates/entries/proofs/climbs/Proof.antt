@@ -1,6 +1,6 @@
 -- `entries::climbs` meets its contract. The loop's invariant: the keys are distinct if those from i on are.
 use mathlib.Core.Path.{_≡_}
-use Prim.Native.Nat.{_+_, _-_, _≤_}
+use Prim.Native.Nat.{_-_, _≤_}
 use lib.ListN.{length, drop}
 use borrow.Author.Needs.{needs}
 use Rattle.rules.specs.Lists.{distinct}

@@ -1,7 +1,7 @@
 -- `entries::note_page` meets its contract. The loop's invariant: the entries before place j are noted.
 use Prim.Native.Nat.{_-_}
 use borrow.Author.Needs.{needs}
-use Rattle.entries.specs.Passes.{Passing}
+use Rattle.entries.specs.State.{Passing}
 use Rattle.entries.proofs.Pages.{InPage, page-skipped, page-entered, entry-room, entry-passed, page-done}
 use Rattle.entries.proofs.note_page.Statement.{statement}
 use Rattle.entries.proofs.note_page.Tie as tie

@@ -1,7 +1,7 @@
 -- `entries::note_pages` meets its contract. The loop's invariant: the entries before page i are noted.
 use Prim.Native.Nat.{_-_, _≤_}
 use borrow.Author.Needs.{needs}
-use Rattle.entries.specs.Passes.{Passing, Before}
+use Rattle.entries.specs.State.{Passing, Before}
 use Rattle.entries.proofs.Pages.{none-gathered, all-gathered}
 use Rattle.entries.proofs.note_pages.Statement.{statement}
 use Rattle.entries.proofs.note_pages.Tie as tie
