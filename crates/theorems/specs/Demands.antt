@@ -19,7 +19,7 @@ use Rattle.rules.specs.Numbers.{first-met}
 use Rattle.rules.specs.Calls.{store-tests, query-number, queried-by, query-call}
 use Rattle.rules.specs.laws.All.{Mem}
 use Rattle.rules.specs.laws.Kept.{kept, keeps}
-use Rattle.rules.specs.laws.Rows.{RowsAscend}
+use Rattle.rules.specs.laws.Rows.{RowsAscend, same-members}
 use Rattle.rules.specs.laws.Numbers.{unmet}
 use Rattle.rules.specs.theorems.WordsAndBack.{words-read, words-accepted, sound-in-range}
 use Rattle.rules.specs.theorems.Fresh.{fresh-sound}
@@ -41,6 +41,11 @@ pub record Exact (start : List Row) (said : List Answered) (w : Window) (rows : 
   pub ascending : RowsAscend rows
   pub only : (r : Row) → Mem r rows → Source (last-said (r .train) said) r start × (meets (r .bounds) w ≡ true)
   pub each : (r : Row) → Source (last-said (r .train) said) r start → meets (r .bounds) w ≡ true → Mem r rows
+
+-- only one list of rows is exact
+pub exact-unique : {start : List Row} {said : List Answered} {w : Window} {qs rs : List Row} → Exact start said w qs → Exact start said w rs → qs ≡ rs
+exact-unique a b =
+    same-members (a .ascending) (b .ascending) (λ r m. b .each r (a .only r m .0) (a .only r m .1)) (λ r m. a .each r (b .only r m .0) (b .only r m .1))
 
 -- ---- a query after any steps, from any sound store
 pub query-exact : (s : Store) → sound s ≡ true → (xs : List Step) (w : Window) → Exact (live s) (history-of s xs) w (rows-in (run s xs .store) w)

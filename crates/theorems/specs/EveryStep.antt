@@ -1,9 +1,10 @@
 -- Every step, of whatever kind, accepted or refused: what holds before it, and after what each kind does, holds after it. So a run keeps a store sound.
-use Prim.Native.Nat.{ℕ, zero, suc, _≤_}
+use Prim.Native.Nat.{ℕ, zero, suc, _*_, _≤_}
 use native.Mathlib.Omega.{arith}
 use mathlib.Core.Path.{_≡_, refl}
 use mathlib.Core.Bool.{true, false}
-use mathlib.Core.List.{List, [], _∷_}
+use mathlib.Core.List.{List, [], _∷_, _++_}
+use lib.ListN.{length}
 use lib.Dec.{eqb}
 use borrow.Author.Tests.{ne-eqb}
 use Rattle.rules.specs.Lists.{one-of}
@@ -31,6 +32,11 @@ no-kind x d = rw (other 1 (omega arith) (omega arith), other 2 (omega arith) (om
 pub clean-accepted : (s : Store) (x : Step) → x .kind ≡ 3 → in-form x ≡ true → refusal s x ≡ 0
 unfolding refusal first-met
 clean-accepted s x k f = rw (f, k)
+
+-- and so is an inspection
+pub inspect-accepted : (s : Store) (x : Step) → x .kind ≡ 4 → in-form x ≡ true → refusal s x ≡ 0
+unfolding refusal first-met
+inspect-accepted s x k f = rw (f, k)
 
 -- P of the store before a step that is refused, and after each kind of step that is accepted
 pub record ByKind (P : Store → Type 0) (s : Store) (x : Step) : Type 0 where
@@ -80,3 +86,16 @@ pub run-sound : (s : Store) (xs : List Step) → sound s ≡ true → sound (run
 unfolding run
 run-sound s [] h = h
 run-sound s (x ∷ xs) h = run-sound (step s x .store) xs (step-sound s x h)
+
+-- ---- runs
+-- one run after another is the run of all their steps
+pub run-on : (s : Store) (xs ys : List Step) → run s (xs ++ ys) .store ≡ run (run s xs .store) ys .store
+unfolding run
+run-on s [] ys = refl
+run-on s (x ∷ xs) ys = run-on (step s x .store) xs ys
+
+-- each step is answered by two words
+pub two-words : (s : Store) (xs : List Step) → length (run s xs .answers) ≡ 2 * length xs
+unfolding run
+two-words s [] = refl
+two-words s (x ∷ xs) = let later = two-words (step s x .store) xs in omega arith

@@ -18,6 +18,10 @@ use Rattle.theorems.specs.Accepted.{accepted-opening, accepted-closing}
 
 -- u is s but for its board i, which is b
 pub record OnlyBoard (s : Store) (i : ℕ) (b : Board) (u : Store) : Type 0 where
+  pub next : u .next ≡ s .next
+  pub tree : tree-of u ≡ tree-of s
+  pub slots : u .slots ≡ s .slots
+  pub memo : u .memo ≡ s .memo
   pub held : held u ≡ held s
   pub live : live u ≡ live s
   pub long : length (u .boards) ≡ length (s .boards)
@@ -34,6 +38,10 @@ module _ (s : Store) (i : ℕ) (b : Board) where
   unfolding held live board-at
   only-board h =
       record {
+        next = refl;
+        tree = refl;
+        slots = refl;
+        memo = refl;
         held = refl;
         live = refl;
         long = length-set (s .boards) i b;
@@ -107,3 +115,12 @@ module _ (s : Store) (x : Step) (k : x .kind ≡ 6) (a : refusal s x ≡ 0) wher
       replaced-sound s (x .a) closed e
       (record { open-most = omega arith; rows-most = omega arith; shut = λ z. refl })
       (λ (z : 0 ≡ 1). absurd (omega arith))
+
+-- ---- the counts they write: the rows that the opened board has, and 0
+pub open-count : (s : Store) (x : Step) → open-board s x .count ≡ length (rows-in s (its-window x))
+unfolding open-board
+open-count s x = refl
+
+pub close-count : (s : Store) (x : Step) → close-board s x .count ≡ 0
+unfolding close-board
+close-count s x = refl
