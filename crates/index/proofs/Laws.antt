@@ -3,33 +3,20 @@ use Prim.Native.Nat.{ℕ, zero, suc, _+_, _-_, _≤_, _<_}
 use native.Mathlib.Omega.{arith}
 use native.Mathlib.Numerals.{add-one}
 use mathlib.Core.Path.{_≡_, refl, sym, _∙_, ap, ap₂}
-use mathlib.Core.Bool.{Bool, true, false, not, and-true}
+use mathlib.Core.Bool.{Bool, true, false, not}
 use mathlib.Core.List.{List, [], _∷_, _++_}
-use lib.Dec.{leb, eqb}
+use lib.Dec.{eqb}
 use lib.ListN.{length, take, set, getD, replicate, List·getD-eq-default}
 use lib.Seq.{take-suc, take-suc-set, take-all}
-use borrow.Author.Tests.{le-leb, eq-eqb, ne-eqb, not-true, not-false}
-use Rattle.rules.specs.Lists.{all-of, padded}
+use borrow.Author.Tests.{eq-eqb, ne-eqb, not-true, not-false}
+use Rattle.rules.specs.Lists.{padded}
 use Rattle.rules.specs.Store.{store-length, words, fresh}
 use Rattle.rules.specs.Sound.{sizes-in-range}
 use Rattle.rules.specs.Numbers.{first-met}
-use Rattle.rules.specs.Calls.{Started, start-number, started-by, start}
+use Rattle.rules.specs.Calls.{start-number, started-by, start}
 use Rattle.index.specs.Fresh.{first-words, fresh-words}
 use Rattle.rules.specs.Views.{Sizes, sizes-in-range-holds}
 use Rattle.rules.specs.laws.Words.{padded-length}
-
--- sizes that break a bound are out of range
-pub sizes-fail : (p k b : ℕ) → (Sizes p k b → ⊥) → false ≡ sizes-in-range p k b
-sizes-fail p k b h = go (sizes-in-range p k b) refl
-  where
-    go : (t : Bool) → sizes-in-range p k b ≡ t → false ≡ t
-    go true e = absurd (h (sizes-in-range-holds p k b e))
-    go false e = refl
-
--- where the others are within theirs, the boards decide
-pub boards-decide : (p k b : ℕ) → 1 ≤ p → p ≤ 192 → 1 ≤ k → k ≤ 1024 → leb b 32 ≡ sizes-in-range p k b
-unfolding sizes-in-range all-of
-boards-decide p k b h i j l = rw (le-leb 1 p h, le-leb p 192 i, le-leb 1 k j, le-leb k 1024 l, and-true)
 
 -- past its own words a padded list is zero, as it is past its end
 zero-word : (m i : ℕ) → _≡_ {A = ℕ} (getD (replicate m 0) i 0) 0

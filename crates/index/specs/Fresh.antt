@@ -2,12 +2,11 @@
 use Prim.Native.Nat.{ℕ, zero, suc, _+_, _*_, _-_, _≤_}
 use native.Mathlib.Omega.{arith}
 use native.Mathlib.Nat.{mul-suc}
-use mathlib.Core.Path.{_≡_, refl, sym, _∙_, ap, ap₂}
-use mathlib.Core.Bool.{true}
-use mathlib.Core.List.{List, [], _∷_, _++_, flatMap, append-assoc}
+use mathlib.Core.Path.{_≡_, refl, _∙_, ap, ap₂}
+use mathlib.Core.List.{List, [], _∷_, _++_, flatMap}
 use lib.ListN.{length, replicate, replicate-append-replicate, length-replicate}
 use Rattle.rules.specs.Lists.{padded}
-use Rattle.rules.specs.Store.{Page, Board, stamp, free-page, closed, memo-start, boards-start, store-length, memo-words, page-words, board-words, header-words, words, fresh, store-open}
+use Rattle.rules.specs.Store.{free-page, closed, store-length, memo-words, page-words, board-words, words, fresh, store-open}
 
 -- the header, and page 0 as an empty leaf with mark 1
 abbrev pub first-words : ℕ → ℕ → ℕ → List ℕ

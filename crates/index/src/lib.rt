@@ -1,30 +1,17 @@
 // The public calls. Each tests its own input, answers by the table of numbers and asks nothing of its caller.
+use rules::Window;
 ghost use mathlib.Core.Path.{_≡_};
-ghost use Prim.Native.Nat.{_≤_};
+ghost use Prim.Native.Nat.{_≤_, _<_};
 ghost use lib.ListN.{length, getD};
 ghost use Rattle.rules.specs.Lists.{padded};
-ghost use Rattle.rules.specs.Sound.{sizes-in-range};
+ghost use Rattle.rules.specs.Store.{store-of, board-at};
+ghost use Rattle.rules.specs.Boards.{is-open};
 ghost use Rattle.rules.specs.Calls as calls;
+ghost use Rattle.query.specs.Keys.{Searchable};
 ghost use Rattle.index.specs.Fresh.{first-words};
+ghost use Rattle.index.specs.Answers.{Answered};
 
-// P is 1 to 192, K 1 to 1,024 and B at most 32.
-fn sizes_fit(p: u32, k: u32, b: u32) -> bool
-    ensures { λ r. ⌜ r ≡ sizes-in-range p k b ⌝ }
-{
-    if p < 1 {
-        return false;
-    }
-    if 192 < p {
-        return false;
-    }
-    if k < 1 {
-        return false;
-    }
-    if 1024 < k {
-        return false;
-    }
-    b <= 32
-}
+// ---- start
 
 // A fresh store's words 0 to 18: the header, and page 0 as an empty leaf with mark 1. All later ones are zero.
 fn first_words(p: u32, k: u32, b: u32) -> [u32; 19]
@@ -82,7 +69,7 @@ fn fill(store: &mut [u32], first: [u32; 19])
 pub fn start(p: u32, k: u32, b: u32, store: &mut [u32]) -> u32
     ensures { λ r. ⌜ calls.start p k b (now (store .entry)) ≡ record { number = r; store = now (store .exit) } ⌝ }
 {
-    if !sizes_fit(p, k, b) {
+    if !judge::sizes_fit(p, k, b) {
         return 1;
     }
     let n = header::store_length(p as usize, k as usize, b as usize);
@@ -92,4 +79,79 @@ pub fn start(p: u32, k: u32, b: u32, store: &mut [u32]) -> u32
     let first = first_words(p, k, b);
     fill(store, first);
     0
+}
+
+// ---- query
+
+// What a query answers: how many rows it listed, or the number that it is refused with.
+pub enum Answer {
+    Listed(usize),
+    Refused(u32),
+}
+
+// The rows of a window, from the row slice's start; refused, the slice is untouched.
+pub fn query(store: &[u32], x0: u32, y0: u32, x1: u32, y1: u32, rows: &mut [u32]) -> Answer
+    ensures { λ r. ⌜ Answered (calls.query-call (now (store .entry)) (record { x0 = x0; y0 = y0; x1 = x1; y1 = y1 }) (now (rows .entry))) r (now (rows .exit)) ⌝ }
+{
+    let number = judge::judge(store);
+    if number != 0 {
+        return Answer::Refused(number);
+    }
+    let w = Window { x0, y0, x1, y1 };
+    if !boxes::proper_window(w) {
+        return Answer::Refused(8);
+    }
+    let mut keys = [0u64; 576];
+    let mut work = [0u64; 576];
+    let n = query::find(store, w, &mut keys, &mut work);
+    if rows.len() < 5 * n {
+        return Answer::Refused(15);
+    }
+    query::write_rows(store, &keys, n, rows);
+    Answer::Listed(n)
+}
+
+// ---- boards
+
+// Whether board i is open: its own words, in the store's middle, are lent on to be read.
+fn is_open(store: &[u32], i: usize) -> bool
+    requires { ⌜ Searchable (now store) ⌝ }
+    requires { ⌜ i < length (store-of (now store) .boards) ⌝ }
+    ensures { λ r. ⌜ r ≡ is-open (board-at (store-of (now (store .entry))) i) ⌝ }
+{
+    let a = watch::board_start(store, i);
+    let e = a + 86;
+    board::is_open(&store[a..e])
+}
+
+// The number for board i: 0 if its rows can be read.
+pub fn board_test(store: &[u32], i: u32) -> u32
+    ensures { λ r. ⌜ r ≡ calls.board-test (now (store .entry)) i ⌝ }
+{
+    let number = judge::judge(store);
+    if number != 0 {
+        return number;
+    }
+    if header::boards(store) <= i as usize {
+        return 9;
+    }
+    if !is_open(store, i as usize) {
+        return 10;
+    }
+    0
+}
+
+// Board i's rows as they stand in the store, from the first to the last, or an empty part where the test refuses.
+pub fn board_rows<'a>(store: &'a [u32], i: u32) -> &'a [u32]
+    ensures { λ r. ⌜ now r ≡ calls.board-rows (now (store .entry)) i ⌝ }
+{
+    if board_test(store, i) != 0 {
+        return &store[0..0];
+    }
+    let a = watch::board_start(store, i as usize);
+    let e = a + 86;
+    let n = board::row_count(&store[a..e]);
+    let from = a + 6;
+    let to = from + 5 * n;
+    &store[from..to]
 }

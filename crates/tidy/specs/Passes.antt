@@ -18,16 +18,16 @@ same-truth true b h k = sym (h refl)
 same-truth false true h k = k refl
 same-truth false false h k = refl
 
+pub regrouped : (a b c d : Bool) → ((a && b) && (c && d)) ≡ ((a && c) && (b && d))
+regrouped true true c d = refl
+regrouped true false true d = refl
+regrouped true false false d = refl
+regrouped false b c d = refl
+
 pub every-both : {A : Type 0} (f g : A → Bool) (xs : List A) → every (λ x. f x && g x) xs ≡ (every f xs && every g xs)
 unfolding every
 every-both f g [] = refl
-every-both f g (x ∷ xs) = rw (every-both f g xs) (go (f x) (g x) (every f xs) (every g xs))
-  where
-    go : (a b c d : Bool) → ((a && b) && (c && d)) ≡ ((a && c) && (b && d))
-    go true true c d = refl
-    go true false true d = refl
-    go true false false d = refl
-    go false b c d = refl
+every-both f g (x ∷ xs) = rw (every-both f g xs) (regrouped (f x) (g x) (every f xs) (every g xs))
 
 -- ---- the elements before place i have passed
 abbrev pub Passed : {A : Type 0} → (A → Bool) → List A → ℕ → Type 0

@@ -4,7 +4,7 @@ use native.Mathlib.Omega.{arith}
 use native.Mathlib.Numerals.{add-one}
 use mathlib.Core.Path.{_≡_, refl, sym, _∙_, ap, ap₂}
 use mathlib.Core.Bool.{Bool, true, false, not, _&&_, and-true, and-assoc}
-use mathlib.Core.List.{List, [], _∷_, _++_, map, flatMap}
+use mathlib.Core.List.{List, [], _∷_, map, flatMap}
 use lib.Dec.{eqb}
 use lib.ListN.{length, getD, take, drop, length-map, List·getD-map, drop-of-length-le}
 use lib.Seq.{drop-cons, length-take-le, getD-take}
@@ -13,7 +13,7 @@ use Rattle.rules.specs.declared.Row.{Row}
 use Rattle.rules.specs.declared.Window.{Window}
 use Rattle.rules.specs.Lists.{all-of, every, same-words}
 use Rattle.rules.specs.Boxes.{proper-window}
-use Rattle.rules.specs.Store.{Board, Store, closed, box-words, row-words, board-of, board-at, store-of}
+use Rattle.rules.specs.Store.{Board, closed, box-words, row-words, board-of, board-at, store-of}
 use Rattle.rules.specs.Live.{rows-in}
 use Rattle.rules.specs.Boards.{is-open}
 use Rattle.rules.specs.Sound.{same-rows, rule8}

@@ -1,7 +1,6 @@
 -- `index::fill` meets its contract. The loop's invariant: the words before i are filled in. Assumes nothing.
 use mathlib.Core.Path.{_≡_}
 use Prim.Native.Nat.{_≤_, _-_}
-use native.Mathlib.Omega.{arith}
 use lib.ListN.{length, take}
 use borrow.Author.Needs.{needs}
 use Rattle.rules.specs.Lists.{padded}

@@ -1,9 +1,9 @@
--- `index::sizes_fit` meets its contract. Assumes nothing.
+-- `judge::sizes_fit` meets its contract. Assumes nothing.
 use native.Mathlib.Omega.{arith}
 use borrow.Author.Needs.{needs}
-use Rattle.index.proofs.Laws.{sizes-fail, boards-decide}
-use Rattle.index.proofs.sizes_fit.Statement.{statement}
-use Rattle.index.proofs.sizes_fit.Tie as tie
+use Rattle.judge.proofs.Laws.{sizes-fail, boards-decide}
+use Rattle.judge.proofs.sizes_fit.Statement.{statement}
+use Rattle.judge.proofs.sizes_fit.Tie as tie
 
 pub sizes-fit-spec : {M : Type 1} → statement M
 sizes-fit-spec =

@@ -1,0 +1,18 @@
+-- `index::board_test` meets its contract. Assumes nothing.
+use borrow.Author.Needs.{needs}
+use Rattle.watch.specs.Lent.{header-long, board-inside}
+use Rattle.index.proofs.Calls.{searchable, test-refused, no-board, shut-board, open-board}
+use Rattle.index.proofs.board_test.Statement.{statement}
+use Rattle.index.proofs.board_test.Tie as tie
+
+pub board-test-spec : {M : Type 1} → statement M
+board-test-spec =
+    tie.close
+    (tie.spec
+    (λ c κs. search needs)
+    (λ c. search (needs, test-refused))
+    (λ c κs. search (needs, header-long, searchable))
+    (λ c. search (needs, no-board))
+    (λ c κs. (search (needs, searchable), search (needs, board-inside, searchable)))
+    (λ c. search (needs, shut-board))
+    (λ c. search (needs, open-board)))

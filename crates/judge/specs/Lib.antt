@@ -1,0 +1,2 @@
+-- The parts of the judgement put together.
+pub mod Combined
