@@ -1,0 +1,4 @@
+pub mod Rows
+pub mod OnePage
+pub mod Below
+pub mod Root

@@ -1,0 +1,131 @@
+-- Laws of putting in: what is read from words that are ready, and what writing pages leaves.
+use Prim.Native.Nat.{ℕ, _+_, _*_, _≤_}
+use native.Mathlib.Omega.{arith}
+use mathlib.Core.Path.{_≡_, refl, sym, ap, _∙_}
+use mathlib.Core.List.{List, [], _∷_}
+use lib.ListN.{length, getD, drop, length-set, length-take}
+use Rattle.rules.specs.declared.PageNo.{PageNo}
+use Rattle.rules.specs.declared.Entry.{Entry}
+use Rattle.rules.specs.Lists.{padded}
+use Rattle.rules.specs.Boxes.{cover-of}
+use Rattle.rules.specs.Store.{Page as Contents, Store, free-page, page-at, put-page, pages-of, store-length, header-words, words, store-of}
+use Rattle.rules.specs.Tree.{its-box, lowest-free, child-place, cover-page}
+use Rattle.rules.specs.Views.{ProperBox}
+use Rattle.rules.specs.laws.All.{All, none, all-set, all-anywhere}
+use Rattle.rules.specs.laws.Boxes.{cover-of-proper}
+use Rattle.rules.specs.laws.Words.{Fits, words-length, pages-back, memo-back, boards-back}
+use Rattle.rules.specs.laws.Parts.{with-pages, fits-page}
+use Rattle.page.specs.declared.Page.{Page}
+use Rattle.page.specs.Struct.{contents, laid-page, struct-at, with-struct}
+use Rattle.page.specs.Laws.{laid-contents, laid-places, pages-length, struct-there, struct-written}
+use Rattle.tree.specs.Putting.{ProperPlaces, Ready, Laid, Wrote}
+
+-- ---- words and back
+-- a store whose parts fit is read back from its words
+pub fits-read : (s : Store) → Fits s → store-of (words s) ≡ s
+unfolding store-of words header-words padded
+fits-read s f =
+    λ i.
+    record {
+      next = s .next;
+      root = s .root;
+      levels = s .levels;
+      slots = s .slots;
+      pages = pages-back s f i;
+      memo = memo-back s f i;
+      boards = boards-back s f i;
+    }
+
+pub ready-words : (p : ℕ) (s : Store) → Fits s → length (s .pages) ≡ p → p ≤ 192 → All (λ g. ProperPlaces (g .places)) (s .pages) → Ready p (words s)
+ready-words p s f n m a =
+    let e = fits-read s f in
+    record { written = ap words e; fits = rw e f; counted = rw e n; most = m; proper = rw e a }
+
+-- ---- boxes
+pub cover-proper : (es : List Entry) → ProperPlaces es → ProperBox (cover-of its-box es)
+unfolding cover-of
+cover-proper [] a = omega arith
+cover-proper (e ∷ es) a = cover-of-proper its-box a
+
+-- ---- structs
+-- what a struct that is laid out holds
+module _ (g : Page) (l : Laid g) where
+  pub laid-few : length (contents g .places) ≤ 8
+  unfolding contents
+  laid-few = rw length-take (omega arith)
+
+  pub laid-count : g .count ≡ length (contents g .places)
+  unfolding laid-page
+  laid-count = ap (λ g. g .count) (l .laid)
+
+  pub laid-length : length (g .places) ≡ 8
+  laid-length = ap (λ g. length (g .places)) (l .laid) ∙ laid-places (contents g) laid-few
+
+-- the struct of contents is laid out
+pub laid-of : (g : Contents) → length (g .places) ≤ 8 → ProperPlaces (g .places) → Laid (laid-page g)
+laid-of g f a =
+    let e : contents (laid-page g) ≡ g = laid-contents g f in record { laid = sym (ap laid-page e); proper = rw e a }
+
+-- ---- read
+module _ (p : ℕ) (w : List ℕ) (h : Ready p w) where
+  pub room : 16 + 52 * p ≤ length w
+  unfolding store-length
+  room = omega (arith, rw (h .written) at (words-length (store-of w) (h .fits)), h .counted)
+
+  pub page-few : (at : PageNo) → length (page-at (store-of w .pages) at .places) ≤ 8
+  unfolding page-at
+  page-few at = all-anywhere (h .fits .pages-fit) (at .0) free-page (omega arith)
+
+  pub page-proper : (at : PageNo) → ProperPlaces (page-at (store-of w .pages) at .places)
+  unfolding page-at
+  page-proper at = all-anywhere (h .proper) (at .0) free-page none
+
+  pub page-read : (at : PageNo) → struct-at w p at ≡ laid-page (page-at (store-of w .pages) at)
+  page-read at = rw (h .written, h .counted) at (struct-there (store-of w) (h .fits .pages-fit) at)
+
+  module _ (at : PageNo) (g : Page) (e : g ≡ struct-at w p at) where
+    pub read-laid : Laid g
+    read-laid = rw (e ∙ page-read at) (laid-of (page-at (store-of w .pages) at) (page-few at) (page-proper at))
+
+    pub read-contents : contents g ≡ page-at (store-of w .pages) at
+    read-contents = rw (e ∙ page-read at) (laid-contents (page-at (store-of w .pages) at) (page-few at))
+
+  pages-count : getD w 5 0 ≡ p
+  unfolding store-of
+  pages-count = sym (pages-length w (getD w 5 0)) ∙ h .counted
+
+  pub free-read : lowest-free (pages-of p (drop 16 w)) ≡ lowest-free (store-of w .pages)
+  unfolding store-of
+  free-read = rw pages-count refl
+
+  pub child-proper : (c : PageNo) → ProperBox (child-place (store-of w .pages) c .bounds)
+  unfolding child-place cover-page
+  child-proper c = cover-proper (page-at (store-of w .pages) c .places) (page-proper c)
+
+-- ---- written
+-- a page is replaced
+module _ (p : ℕ) (w : List ℕ) (h : Ready p w) where
+  pub page-put : (at : PageNo) (g : Contents) → length (g .places) ≤ 8 → ProperPlaces (g .places)
+      → Wrote p w (put-page (store-of w .pages) at g) (with-struct w p at (laid-page g))
+  unfolding put-page
+  page-put at g f a =
+      let s : Store = with-pages (store-of w) (put-page (store-of w .pages) at g) in
+      let fit : Fits s = fits-page (store-of w) at g (h .fits) f in
+      let e : with-struct w p at (laid-page g) ≡ words s = rw (h .written, h .counted) at (struct-written (store-of w) (h .fits .pages-fit) at g f) in
+      record {
+        wrote = e;
+        stored = rw e (fits-read s fit);
+        ready = rw e (ready-words p s fit (length-set (store-of w .pages) (at .0) g ∙ h .counted) (h .most) (all-set (h .proper) (at .0) a));
+      }
+
+-- and once more
+pub wrote-then : {p : ℕ} {w : List ℕ} {ps : List Contents} {w′ : List ℕ} {ps′ : List Contents} {w″ : List ℕ} → Wrote p w ps w′ → Wrote p w′ ps′ w″ → Wrote p w ps′ w″
+wrote-then {ps′ = ps′} a b =
+    record {
+      wrote = b .wrote ∙ ap (λ s. words (with-pages s ps′)) (a .stored);
+      stored = b .stored ∙ ap (λ s. with-pages s ps′) (a .stored);
+      ready = b .ready;
+    }
+
+pub wrote-pages : {p : ℕ} {w : List ℕ} {ps : List Contents} {w′ : List ℕ} → Wrote p w ps w′ → store-of w′ .pages ≡ ps
+wrote-pages a = ap (λ s. s .pages) (a .stored)
