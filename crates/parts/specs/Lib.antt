@@ -1,0 +1,2 @@
+-- Stores whose parts are in order, and what writing one part leaves.
+pub mod InOrder

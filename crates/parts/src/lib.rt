@@ -1,0 +1,1 @@
+// The store's memo and boards, written part by part.
