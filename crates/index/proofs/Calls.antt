@@ -3,7 +3,7 @@ use Prim.Native.Nat.{ℕ, zero, suc, _+_, _-_, _*_, _≤_, _<_}
 use native.Mathlib.Omega.{arith}
 use native.Mathlib.Nat.{add-sub-cancel-left}
 use mathlib.Core.Path.{_≡_, refl, sym, _∙_, ap}
-use mathlib.Core.Bool.{Bool, true, false, not, cond}
+use mathlib.Core.Bool.{Bool, true, false, not}
 use mathlib.Core.List.{List, [], _∷_, _++_, map, flatMap}
 use lib.Dec.{leb}
 use lib.ListN.{length, getD, take, drop, take-append-drop, length-drop}
@@ -19,34 +19,13 @@ use Rattle.rules.specs.Boards.{is-open}
 use Rattle.rules.specs.Numbers.{Refusal, _when_, first-met}
 use Rattle.rules.specs.Calls.{store-tests, query-number, queried-by, query-call, board-test, rows-by, board-rows}
 use Rattle.rules.specs.laws.All.{always}
-use Rattle.rules.specs.laws.Numbers.{Numbered, unmet}
+use Rattle.rules.specs.laws.Numbers.{Numbered, unmet, met-first, none-met}
 use Rattle.rules.specs.laws.Words.{flat-length, row-words-length}
 use Rattle.query.specs.Keys.{row-of-key, Searchable, sound-searchable, Found}
 use Rattle.query.specs.Rows.{answer-written}
 use Rattle.watch.specs.Lent.{BoardAt, boards-count}
 use Rattle.index.specs.declared.Answer.the-variants.{Listed, Refused}
 use Rattle.index.specs.Answers.{Answered}
-
--- ---- tests and then others: the first ones decide where one of them is met, and the others where none is
-met-first : (rs qs : List Refusal) → (first-met rs ≡ 0 → ⊥) → first-met (rs ++ qs) ≡ first-met rs
-unfolding first-met
-met-first [] qs h = absurd (h refl)
-met-first (r ∷ rs) qs h = go (r .met) (met-first rs qs) h
-  where
-    go : (b : Bool) → ((first-met rs ≡ 0 → ⊥) → first-met (rs ++ qs) ≡ first-met rs) → (cond b (r .number) (first-met rs) ≡ 0 → ⊥)
-        → cond b (r .number) (first-met (rs ++ qs)) ≡ cond b (r .number) (first-met rs)
-    go true later k = refl
-    go false later k = later k
-
-none-met : (rs qs : List Refusal) → Numbered rs → first-met rs ≡ 0 → first-met (rs ++ qs) ≡ first-met qs
-unfolding first-met
-none-met [] qs n e = refl
-none-met (r ∷ rs) qs n e = go (r .met) e (none-met rs qs (n .1))
-  where
-    go : (b : Bool) → cond b (r .number) (first-met rs) ≡ 0 → (first-met rs ≡ 0 → first-met (rs ++ qs) ≡ first-met qs)
-        → cond b (r .number) (first-met (rs ++ qs)) ≡ first-met qs
-    go true k later = absurd (omega (arith, n .0))
-    go false k later = later k
 
 -- ---- a store that is judged
 module _ (v : List ℕ) (number : ℕ) (judged : number ≡ first-met (store-tests v)) where

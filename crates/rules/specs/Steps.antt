@@ -11,6 +11,7 @@ use Rattle.rules.specs.declared.Window.{Window}
 use Rattle.rules.specs.declared.Entry.{Entry}
 use Rattle.rules.specs.declared.Slot.{Slot}
 use Rattle.rules.specs.declared.Row.{Row}
+use Rattle.rules.specs.declared.Step.{Step}
 use Rattle.rules.specs.Lists.{all-of, one-of, keep, some-one}
 use Rattle.rules.specs.Boxes.{proper-box, proper-window}
 use Rattle.rules.specs.Store.{Board, Store, train, stamp, limit, row-limit, closed, page-at, board-at}
@@ -22,14 +23,6 @@ use Rattle.rules.specs.Boards.{is-open, told, untold, overfull, touched,
 use Rattle.rules.specs.Numbers.{_when_, first-met}
 
 -- ---- a step's words: kind, a, then four more
-pub record Step : Type 0 where
-  pub kind : ℕ
-  pub a : ℕ
-  pub x0 : ℕ
-  pub y0 : ℕ
-  pub x1 : ℕ
-  pub y1 : ℕ
-
 unfoldable pub step-of : List ℕ → Step
 step-of w =
     record { kind = getD w 0 0; a = getD w 1 0; x0 = getD w 2 0; y0 = getD w 3 0; x1 = getD w 4 0; y1 = getD w 5 0 }

@@ -54,3 +54,13 @@ pub enum LookUp {
         old: u32,
     },
 }
+
+// A step: its kind, a train or a board, and a box or a window; words that its kind does not name are 0.
+pub struct Step {
+    pub kind: u32,
+    pub a: u32,
+    pub x0: u32,
+    pub y0: u32,
+    pub x1: u32,
+    pub y1: u32,
+}

@@ -8,7 +8,8 @@ use borrow.Author.Tests.{eqb-false, leb-false, ltb-false, not-false}
 use lib.ListN.{length}
 use Rattle.rules.specs.declared.Train.{Train}
 use Rattle.rules.specs.Store.{Store, limit, row-limit, board-at}
-use Rattle.rules.specs.Steps.{Step, its-train, reported-box, its-window, reported-row, in-form, refusal}
+use Rattle.rules.specs.declared.Step.{Step}
+use Rattle.rules.specs.Steps.{its-train, reported-box, its-window, reported-row, in-form, refusal}
 use Rattle.rules.specs.Memo.{look-up, is-absent}
 use Rattle.rules.specs.Live.{held, rows-in}
 use Rattle.rules.specs.Boards.{is-open, told, overfull}

@@ -12,7 +12,8 @@ use Rattle.rules.specs.Store.{Board, Store, closed, board-at}
 use Rattle.rules.specs.Live.{live, rows-in}
 use Rattle.rules.specs.Boards.{is-open, lists, told, untold}
 use Rattle.rules.specs.Sound.{sound}
-use Rattle.rules.specs.Steps.{Step, its-train, reported-row, report, withdraw}
+use Rattle.rules.specs.declared.Step.{Step}
+use Rattle.rules.specs.Steps.{its-train, reported-row, report, withdraw}
 use Rattle.rules.specs.Views.{OpenBoard, sound-holds}
 use Rattle.rules.specs.laws.All.{all-anywhere}
 use Rattle.rules.specs.laws.Rows.{told-same, untold-same}

@@ -14,7 +14,8 @@ use Rattle.rules.specs.Store.{Store, page-at, board-at, fresh, words, store-of,
 use Rattle.rules.specs.Live.{held-under, held, live, rows-of, rows-in}
 use Rattle.rules.specs.Sound.{sizes-in-range, sound}
 use Rattle.rules.specs.Boards.{is-open}
-use Rattle.rules.specs.Steps.{Step, run}
+use Rattle.rules.specs.declared.Step.{Step}
+use Rattle.rules.specs.Steps.{run}
 use Rattle.rules.specs.Numbers.{first-met}
 use Rattle.rules.specs.Calls.{store-tests, query-number, queried-by, query-call}
 use Rattle.rules.specs.laws.All.{Mem}

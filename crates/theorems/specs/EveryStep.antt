@@ -10,7 +10,8 @@ use borrow.Author.Tests.{ne-eqb}
 use Rattle.rules.specs.Lists.{one-of}
 use Rattle.rules.specs.Store.{Store}
 use Rattle.rules.specs.Sound.{sound}
-use Rattle.rules.specs.Steps.{Step, in-form, refusal, report, withdraw, clean, inspect, open-board, close-board, effect, done, step, run}
+use Rattle.rules.specs.declared.Step.{Step}
+use Rattle.rules.specs.Steps.{in-form, refusal, report, withdraw, clean, inspect, open-board, close-board, effect, done, step, run}
 use Rattle.rules.specs.Numbers.{first-met}
 use Rattle.rules.specs.laws.Tests.{not-both}
 use Rattle.theorems.specs.Accepted.{in-its-form}

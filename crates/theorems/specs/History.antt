@@ -7,7 +7,8 @@ use lib.Dec.{eqb}
 use lib.ListN.{getD, drop}
 use Rattle.rules.specs.declared.Train.{Train}
 use Rattle.rules.specs.declared.Box.{Box}
-use Rattle.rules.specs.Steps.{Step, its-train, reported-box, is-report, is-withdraw}
+use Rattle.rules.specs.declared.Step.{Step}
+use Rattle.rules.specs.Steps.{its-train, reported-box, is-report, is-withdraw}
 
 -- a step and the number that it was answered with
 pub record Answered : Type 0 where

@@ -12,7 +12,8 @@ use Rattle.rules.specs.declared.Row.{Row}
 use Rattle.rules.specs.Store.{Store}
 use Rattle.rules.specs.Live.{live, row-inserted, row-removed}
 use Rattle.rules.specs.Sound.{sound}
-use Rattle.rules.specs.Steps.{Step, its-train, reported-box, reported-row, is-report, is-withdraw, refusal, step, run}
+use Rattle.rules.specs.declared.Step.{Step}
+use Rattle.rules.specs.Steps.{its-train, reported-box, reported-row, is-report, is-withdraw, refusal, step, run}
 use Rattle.rules.specs.laws.Tests.{either}
 use Rattle.rules.specs.laws.All.{Mem, all-member, all-members}
 use Rattle.rules.specs.laws.Kept.{kept, keeps}

@@ -10,7 +10,8 @@ use Rattle.rules.specs.Live.{held, live, rows-in}
 use Rattle.rules.specs.Tree.{tree-of}
 use Rattle.rules.specs.Boards.{opened}
 use Rattle.rules.specs.Sound.{obsolete-of, sound}
-use Rattle.rules.specs.Steps.{Step, its-window, with-parts, refusal, open-board, close-board}
+use Rattle.rules.specs.declared.Step.{Step}
+use Rattle.rules.specs.Steps.{its-window, with-parts, refusal, open-board, close-board}
 use Rattle.rules.specs.Views.{BoardInRange, OpenBoard, sound-holds, sound-test}
 use Rattle.rules.specs.laws.All.{all-map, all-set}
 use Rattle.theorems.specs.TreeSound.{tree-of-sound, tree-kept}

@@ -8,7 +8,8 @@ use Rattle.rules.specs.Store.{Store}
 use Rattle.rules.specs.Live.{held, live, row-inserted}
 use Rattle.rules.specs.Boards.{told}
 use Rattle.rules.specs.Sound.{sound}
-use Rattle.rules.specs.Steps.{Step, its-train, reported-box, reported-row, refusal, report}
+use Rattle.rules.specs.declared.Step.{Step}
+use Rattle.rules.specs.Steps.{its-train, reported-box, reported-row, refusal, report}
 use Rattle.rules.specs.Views.{sound-holds}
 use Rattle.rules.specs.laws.Order.{_~_}
 use Rattle.rules.specs.laws.Boards.{told-closed}

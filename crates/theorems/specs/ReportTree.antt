@@ -12,7 +12,8 @@ use Rattle.rules.specs.Store.{Store, page-at}
 use Rattle.rules.specs.Live.{held}
 use Rattle.rules.specs.Tree.{tree-of, put-at}
 use Rattle.rules.specs.Sound.{sound}
-use Rattle.rules.specs.Steps.{Step, its-train, reported-box, report}
+use Rattle.rules.specs.declared.Step.{Step}
+use Rattle.rules.specs.Steps.{its-train, reported-box, report}
 use Rattle.rules.specs.laws.All.{All, none, tail-of, all-map, all-back, Mem, flat-append}
 use Rattle.rules.specs.laws.Order.{_~_, _then_, same, back, all-reordered, mem-reordered, length-reordered, flat-reordered}
 use Rattle.theorems.specs.TreeSound.{TreeSound, tree-of-sound}

@@ -10,7 +10,8 @@ use Rattle.rules.specs.Boards.{is-open}
 use Rattle.rules.specs.Store.{Store, board-at}
 use Rattle.rules.specs.Live.{live, row-inserted, row-removed}
 use Rattle.rules.specs.Sound.{sound}
-use Rattle.rules.specs.Steps.{Step, Effect, Done, its-train, reported-row, refusal, report, withdraw, clean, inspect, open-board, close-board, effect, done, step}
+use Rattle.rules.specs.declared.Step.{Step}
+use Rattle.rules.specs.Steps.{Effect, Done, its-train, reported-row, refusal, report, withdraw, clean, inspect, open-board, close-board, effect, done, step}
 use Rattle.theorems.specs.BoardsAfter.{open-shown}
 use Rattle.theorems.specs.Report.{report-sound, report-live}
 use Rattle.theorems.specs.Withdraw.{withdraw-sound, withdraw-live}

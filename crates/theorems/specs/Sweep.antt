@@ -9,7 +9,8 @@ use borrow.Author.Tests.{leb-true, leb-false, ne-eqb, eq-eqb, eqb-true}
 use Rattle.rules.specs.Lists.{count, one-if}
 use Rattle.rules.specs.Store.{Store}
 use Rattle.rules.specs.Sound.{sound}
-use Rattle.rules.specs.Steps.{Step, is-report, is-clean, in-form, refusal, report, withdraw, clean, inspect, open-board, close-board, step, run}
+use Rattle.rules.specs.declared.Step.{Step}
+use Rattle.rules.specs.Steps.{is-report, is-clean, in-form, refusal, report, withdraw, clean, inspect, open-board, close-board, step, run}
 use Rattle.rules.specs.laws.Tests.{and-left, and-right}
 use Rattle.rules.specs.laws.All.{All, all-map, all-member}
 use Rattle.rules.specs.laws.Order.{count-reordered}

@@ -15,7 +15,8 @@ use Rattle.rules.specs.Store.{Store}
 use Rattle.rules.specs.Memo.{look-up, latest-by, is-latest}
 use Rattle.rules.specs.Live.{row-inserted, row-for, rows-of, held, live}
 use Rattle.rules.specs.Sound.{sound}
-use Rattle.rules.specs.Steps.{Step, is-report, clean, inspect, four-zero, in-form, refusal, effect, done, step, run}
+use Rattle.rules.specs.declared.Step.{Step}
+use Rattle.rules.specs.Steps.{is-report, clean, inspect, four-zero, in-form, refusal, effect, done, step, run}
 use Rattle.rules.specs.Views.{sound-holds}
 use Rattle.rules.specs.laws.Tests.{either}
 use Rattle.rules.specs.laws.All.{All, none, more, always, all-map, all-zip, all-unmapped, all-replicate}

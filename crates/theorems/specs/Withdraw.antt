@@ -8,7 +8,8 @@ use Rattle.rules.specs.Store.{Store}
 use Rattle.rules.specs.Live.{held, live, row-removed}
 use Rattle.rules.specs.Boards.{untold}
 use Rattle.rules.specs.Sound.{sound}
-use Rattle.rules.specs.Steps.{Step, its-train, reported-box, refusal, withdraw}
+use Rattle.rules.specs.declared.Step.{Step}
+use Rattle.rules.specs.Steps.{its-train, reported-box, refusal, withdraw}
 use Rattle.rules.specs.Views.{sound-holds}
 use Rattle.rules.specs.laws.All.{all-map, all-members}
 use Rattle.rules.specs.laws.Boards.{untold-closed, untold-fewer}

@@ -6,14 +6,13 @@ use mathlib.Core.List.{List, [], _∷_}
 use lib.ListN.{length, getD, drop, length-set, length-take}
 use Rattle.rules.specs.declared.PageNo.{PageNo}
 use Rattle.rules.specs.declared.Entry.{Entry}
-use Rattle.rules.specs.Lists.{padded}
 use Rattle.rules.specs.Boxes.{cover-of}
-use Rattle.rules.specs.Store.{Page as Contents, Store, free-page, page-at, put-page, pages-of, store-length, header-words, words, store-of}
+use Rattle.rules.specs.Store.{Page as Contents, Store, free-page, page-at, put-page, pages-of, store-length, words, store-of}
 use Rattle.rules.specs.Tree.{its-box, lowest-free, child-place, cover-page}
 use Rattle.rules.specs.Views.{ProperBox}
 use Rattle.rules.specs.laws.All.{All, none, all-set, all-anywhere}
 use Rattle.rules.specs.laws.Boxes.{cover-of-proper}
-use Rattle.rules.specs.laws.Words.{Fits, words-length, pages-back, memo-back, boards-back}
+use Rattle.rules.specs.laws.Words.{Fits, words-length, fits-read}
 use Rattle.rules.specs.laws.Parts.{with-pages, fits-page}
 use Rattle.page.specs.declared.Page.{Page}
 use Rattle.page.specs.Struct.{contents, laid-page, struct-at, with-struct}
@@ -21,21 +20,6 @@ use Rattle.page.specs.Laws.{laid-contents, laid-places, pages-length, struct-th
 use Rattle.tree.specs.Putting.{ProperPlaces, Ready, Laid, Wrote}
 
 -- ---- words and back
--- a store whose parts fit is read back from its words
-pub fits-read : (s : Store) → Fits s → store-of (words s) ≡ s
-unfolding store-of words header-words padded
-fits-read s f =
-    λ i.
-    record {
-      next = s .next;
-      root = s .root;
-      levels = s .levels;
-      slots = s .slots;
-      pages = pages-back s f i;
-      memo = memo-back s f i;
-      boards = boards-back s f i;
-    }
-
 pub ready-words : (p : ℕ) (s : Store) → Fits s → length (s .pages) ≡ p → p ≤ 192 → All (λ g. ProperPlaces (g .places)) (s .pages) → Ready p (words s)
 ready-words p s f n m a =
     let e = fits-read s f in
