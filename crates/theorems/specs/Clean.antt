@@ -40,9 +40,9 @@ module _ (s : Store) (h : sound s ≡ true) where
   unfolding cleaned-out is-obsolete
   clean-held = clean-step-tree s h .held
 
-  all-obsolete : All (λ e. is-obsolete (s .memo) e ≡ true) (cleaned-out s)
+  pub clean-obsolete : All (λ e. is-obsolete (s .memo) e ≡ true) (cleaned-out s)
   unfolding cleaned-out
-  all-obsolete = all-kept (is-obsolete (s .memo)) (always (λ e z. z) _)
+  clean-obsolete = all-kept (is-obsolete (s .memo)) (always (λ e z. z) _)
 
   -- ---- a slot is freed only where no obsolete entry of its train is left
   freed-at : (e : Entry) → Mem e (held (clean s .store)) → is-latest (s .memo) e ≡ false → (l : LookUp) → SlotSaid s (train-of e) l
@@ -53,7 +53,7 @@ module _ (s : Store) (h : sound s ≡ true) where
       let t = train-of e in
       let left : Entry → Bool = λ x. eqb (train-of x .0) (t .0) && is-obsolete (s .memo) x in
       let some : 1 ≤ count left (held (clean s .store)) = count-some left i (and-both (eq-eqb (t .0) (t .0) refl) (ap not o)) in
-      let room = room-left s (cleaned-out s) (held (clean s .store)) clean-held all-obsolete t place latest old k in
+      let room = room-left s (cleaned-out s) (held (clean s .store)) clean-held clean-obsolete t place latest old k in
       not-freed (of-train t (cleaned-out s)) place latest old (omega arith) z
 
   freed-latest : (e : Entry) → Mem e (held (clean s .store)) → times-less (of-train (train-of e) (cleaned-out s)) (known (train-of e) (s .memo)) ≡ Absent
@@ -79,7 +79,7 @@ module _ (s : Store) (h : sound s ≡ true) where
         slots = refl;
         boards = refl;
         long = C .long;
-        obsolete = all-obsolete;
+        obsolete = clean-obsolete;
         memo = lowered-all-in-range (s .slots) gone (H .ranges .memo);
         fades = λ t. rw (known-lowered-all t gone order) (fades-lowered (of-train t gone) (known t (s .memo)) (some-old s t (known t (s .memo)) (slot-said s (H .rule6) t)));
         freed = all-members (held (clean s .store)) λ e i z. freed-latest e i (sym (known-lowered-all (train-of e) gone order) ∙ z);

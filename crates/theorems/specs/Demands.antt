@@ -1,32 +1,28 @@
 -- The owners' demands 2 and 3, as theorems about the definitions.
-use Prim.Native.Nat.{ℕ, _*_, _≤_}
+use Prim.Native.Nat.{ℕ}
 use mathlib.Core.Path.{_≡_, refl, sym, _∙_, ap, subst}
-use mathlib.Core.Bool.{Bool, true, false}
-use mathlib.Core.List.{List, [], _++_, flatMap, List·Memᴰ·not-nil}
-use native.Mathlib.Omega.{arith}
-use lib.Dec.{ltb}
-use lib.ListN.{length, drop}
-use borrow.Author.Tests.{le-ltb}
+use mathlib.Core.Bool.{Bool, true}
+use mathlib.Core.List.{List, [], List·Memᴰ·not-nil}
 use Rattle.rules.specs.declared.Window.{Window}
 use Rattle.rules.specs.declared.Row.{Row}
-use Rattle.rules.specs.Boxes.{meets, proper-window}
-use Rattle.rules.specs.Store.{Store, page-at, board-at, fresh, words, store-of, row-words}
+use Rattle.rules.specs.Boxes.{meets}
+use Rattle.rules.specs.Store.{Store, page-at, board-at, fresh, words}
 use Rattle.rules.specs.Live.{held-under, held, live, rows-of, rows-in}
 use Rattle.rules.specs.Sound.{sizes-in-range, sound}
 use Rattle.rules.specs.Boards.{is-open}
 use Rattle.rules.specs.declared.Step.{Step}
-use Rattle.rules.specs.Steps.{run}
+use Rattle.rules.specs.Steps.{step, run}
 use Rattle.rules.specs.Numbers.{first-met}
-use Rattle.rules.specs.Calls.{store-tests, query-number, queried-by, query-call}
+use Rattle.rules.specs.Calls.{store-tests}
 use Rattle.rules.specs.laws.All.{Mem}
 use Rattle.rules.specs.laws.Kept.{kept, keeps}
 use Rattle.rules.specs.laws.Rows.{RowsAscend, same-members}
-use Rattle.rules.specs.laws.Numbers.{unmet}
-use Rattle.rules.specs.theorems.WordsAndBack.{words-read, words-accepted, sound-in-range}
+use Rattle.rules.specs.theorems.WordsAndBack.{words-accepted}
 use Rattle.rules.specs.theorems.Fresh.{fresh-sound}
 use Rattle.rules.specs.theorems.Query.{live-ascends, rows-ascend, rows-are-live}
 use Rattle.rules.specs.Views.{sound-holds, rule5-test}
 use Rattle.rules.specs.Lists.{keep}
+use Rattle.theorems.specs.Upheld.{Upheld, upheld}
 use Rattle.theorems.specs.History.{Answered, history, reported, last-said}
 use Rattle.theorems.specs.LiveHistory.{Source, now, earlier, rows-after-all, run-live, row-source, source-row}
 use Rattle.theorems.specs.EveryStep.{run-sound}
@@ -88,20 +84,22 @@ demand-2 p k b h xs w =
     by-report r (now q) = q
     by-report r (earlier q m) = absurd (List·Memᴰ·not-nil (subst (Mem r) (none-live p k b) m))
 
--- ---- demand 3: from any sound store, after any steps, each open board holds exactly the rows that a fresh query of its window would list,
--- trains live at the start counting as reported before
-pub demand-3 : (s : Store) → sound s ≡ true → (xs : List Step) (j : ℕ) → is-open (board-at (run s xs .store) j) ≡ true
-    → Exact (live s) (history-of s xs) (board-at (run s xs .store) j .window) (board-at (run s xs .store) j .rows)
-demand-3 s h xs j o =
-    let b = board-at (run s xs .store) j in
-    subst (Exact (live s) (history-of s xs) (b .window)) (sym (open-shown (run s xs .store) (run-sound s xs h) j o .rows)) (query-exact s h xs (b .window))
+-- ---- demand 3: boards never go stale
+-- after these steps: each open board holds exactly the rows that a fresh query of its window would list, trains live at the start counting as
+-- reported before; the step after them, whatever it is, leaves alone what it must; and no test of a lent store refuses the words
+pub record NeverStale (s : Store) (xs : List Step) : Type 0 where
+  pub exact : (j : ℕ) → is-open (board-at (run s xs .store) j) ≡ true
+      → Exact (live s) (history-of s xs) (board-at (run s xs .store) j .window) (board-at (run s xs .store) j .rows)
+  pub upheld : (x : Step) → Upheld (run s xs .store) x (step (run s xs .store) x .store)
+  pub accepted : first-met (store-tests (words (run s xs .store))) ≡ 0
 
--- ---- the query call itself: with a proper window and room for its rows it answers 0 and those rows
-pub query-answers : (s : Store) → sound s ≡ true → (w : Window) → proper-window w ≡ true → (out : List ℕ) → 5 * length (rows-in s w) ≤ length out
-    → query-call (words s) w out ≡ record { number = 0; count = length (rows-in s w); rows = flatMap row-words (rows-in s w) ++ drop (5 * length (rows-in s w)) out }
-unfolding query-call query-number queried-by store-tests first-met
-query-answers s h w p out room =
-    let t = unmet (store-tests (words s)) (omega arith) (words-accepted s h) in
-    let e : store-of (words s) ≡ s = words-read s (sound-in-range s h) in
-    let fits : ltb (length out) (5 * length (rows-in (store-of (words s)) w)) ≡ false = rw e (le-ltb _ _ room) in
-    rw (t .0, t .1 .0, t .1 .1 .0, t .1 .1 .1 .0, p, fits, e)
+-- so it is from any sound store, after any sequence of steps
+pub demand-3 : (s : Store) → sound s ≡ true → (xs : List Step) → NeverStale s xs
+demand-3 s h xs =
+    let u = run s xs .store in
+    record {
+      exact = λ j o.
+          subst (Exact (live s) (history-of s xs) (board-at u j .window)) (sym (open-shown u (run-sound s xs h) j o .rows)) (query-exact s h xs (board-at u j .window));
+      upheld = λ x. upheld u x (run-sound s xs h);
+      accepted = words-accepted u (run-sound s xs h);
+    }

@@ -21,8 +21,11 @@ pub mod StepKept
 pub mod EveryStep
 pub mod History
 pub mod LiveHistory
+pub mod Upheld
 pub mod Demands
+pub mod Answers
 pub mod Garbage
 pub mod Progress
 pub mod Sweep
+pub mod Property1
 pub mod Tidied
