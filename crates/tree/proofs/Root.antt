@@ -12,7 +12,7 @@ use Rattle.rules.specs.declared.Entry.{Entry}
 use Rattle.rules.specs.Store.{Page as Contents, Store, stamp, page-no, free-page, pages-of, words, store-of, limit}
 use Rattle.rules.specs.Tree.{tree-of, with-places, child-place, lowest-free, whole, parted, rooted, put-below, put-at, Written as Result}
 use Rattle.rules.specs.laws.All.{none, more}
-use Rattle.rules.specs.laws.Words.{Fits}
+use Rattle.rules.specs.laws.Words.{Fits, fits-read}
 use Rattle.rules.specs.laws.Parts.{with-pages, with-header, root-written, levels-written}
 use Rattle.rules.specs.laws.Header.{root-there, levels-there, pages-there}
 use Rattle.page.specs.declared.Page.{Page}
@@ -21,7 +21,7 @@ use Rattle.page.specs.Laws.{laid-added}
 use Rattle.tree.specs.declared.Written.{Written}
 use Rattle.tree.specs.declared.Written.the-variants.{Whole, Parted}
 use Rattle.tree.specs.Putting.{Ready, Wrote, Put, Grown, with-tree, NewRoot, over-root, raised}
-use Rattle.tree.specs.Laws.{fits-read, ready-words, room, free-read, child-proper, page-put}
+use Rattle.tree.specs.Laws.{ready-words, room, free-read, child-proper, page-put}
 
 -- other pages are written, and then another root and number of levels
 grown-from : {p : ℕ} {w : List ℕ} {ps : List Contents} {w₁ : List ℕ} → Wrote p w ps w₁ → (root : PageNo) (levels : ℕ) (w′ : List ℕ) → w′ ≡ set (set w₁ 2 (root .0)) 3 levels

@@ -12,7 +12,7 @@ use Rattle.rules.specs.declared.Entry.{Entry}
 use Rattle.rules.specs.declared.Slot.{Slot}
 use Rattle.rules.specs.declared.Row.{Row}
 use Rattle.rules.specs.Lists.{cut, padded}
-use Rattle.rules.specs.Store.{Page, Board, Store, train, stamp, row-limit, box-words, window-words, place-words, page-words, slot-words, row-words, board-words, header-words, words, memo-start, boards-start, store-length, box-of, window-of, place-of, page-of, slot-of, row-of, board-of, used}
+use Rattle.rules.specs.Store.{Page, Board, Store, train, stamp, row-limit, box-words, window-words, place-words, page-words, slot-words, row-words, board-words, header-words, words, memo-start, boards-start, store-length, box-of, window-of, place-of, page-of, slot-of, row-of, board-of, used, store-of}
 use Rattle.rules.specs.Sound.{page-in-range, memo-in-range, board-in-range, in-range}
 use Rattle.rules.specs.laws.Tests.{each}
 use Rattle.rules.specs.laws.All.{All, none, more, all-map, every-all, map-back, flat-append, always}
@@ -219,3 +219,18 @@ module _ (s : Store) (fits : Fits s) where
   boards-back =
       rw (from-boards, ← append-nil (flatMap board-words (s .boards)))
       (parts-read board-words 86 board-of (all-map (fits .boards-fit) board-words-length) (all-map (fits .boards-fit) board-read) [])
+
+  -- so the whole store is read back from its words
+  pub fits-read : store-of (words s) ≡ s
+  unfolding store-of words header-words padded
+  fits-read =
+      λ i.
+      record {
+        next = s .next;
+        root = s .root;
+        levels = s .levels;
+        slots = s .slots;
+        pages = pages-back i;
+        memo = memo-back i;
+        boards = boards-back i;
+      }

@@ -14,23 +14,11 @@ use Rattle.rules.specs.Calls.{sizes-read, laid-out, store-tests}
 use Rattle.rules.specs.laws.Tests.{and-left, and-right, and-both, each, each-all-of}
 use Rattle.rules.specs.laws.Numbers.{unmet}
 use Rattle.rules.specs.laws.Lists.{same-words-equal, same-words-self}
-use Rattle.rules.specs.laws.Words.{Fits, in-range-fits, words-length, pages-back, memo-back, boards-back}
+use Rattle.rules.specs.laws.Words.{in-range-fits, words-length, fits-read}
 
 -- the store that is read from the words is the one that was written
 pub words-read : (s : Store) → in-range s ≡ true → store-of (words s) ≡ s
-unfolding store-of words header-words padded
-words-read s e =
-    let f : Fits s = in-range-fits s e in
-    λ i.
-    record {
-      next = s .next;
-      root = s .root;
-      levels = s .levels;
-      slots = s .slots;
-      pages = pages-back s f i;
-      memo = memo-back s f i;
-      boards = boards-back s f i;
-    }
+words-read s e = fits-read s (in-range-fits s e)
 
 -- its length and its words 0, 4, 6, 8 and 10 to 15 are as they should be
 pub words-laid-out : (s : Store) → in-range s ≡ true → laid-out (words s) ≡ true
