@@ -1,2 +1,3 @@
 -- Stores whose parts are in order, and what writing one part leaves.
 pub mod InOrder
+pub mod Laws

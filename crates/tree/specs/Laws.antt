@@ -2,16 +2,14 @@
 use Prim.Native.Nat.{ℕ, _+_, _*_, _≤_}
 use native.Mathlib.Omega.{arith}
 use mathlib.Core.Path.{_≡_, refl, sym, ap, _∙_}
-use mathlib.Core.List.{List, [], _∷_}
+use mathlib.Core.List.{List}
 use lib.ListN.{length, getD, drop, length-set, length-take}
 use Rattle.rules.specs.declared.PageNo.{PageNo}
-use Rattle.rules.specs.declared.Entry.{Entry}
-use Rattle.rules.specs.Boxes.{cover-of}
 use Rattle.rules.specs.Store.{Page as Contents, Store, free-page, page-at, put-page, pages-of, store-length, words, store-of}
 use Rattle.rules.specs.Tree.{its-box, lowest-free, child-place, cover-page}
 use Rattle.rules.specs.Views.{ProperBox}
 use Rattle.rules.specs.laws.All.{All, none, all-set, all-anywhere}
-use Rattle.rules.specs.laws.Boxes.{cover-of-proper}
+use Rattle.rules.specs.laws.Boxes.{cover-of-all-proper}
 use Rattle.rules.specs.laws.Words.{Fits, words-length, fits-read}
 use Rattle.rules.specs.laws.Parts.{with-pages, fits-page}
 use Rattle.page.specs.declared.Page.{Page}
@@ -24,12 +22,6 @@ pub ready-words : (p : ℕ) (s : Store) → Fits s → length (s .pages) ≡ p �
 ready-words p s f n m a =
     let e = fits-read s f in
     record { written = ap words e; fits = rw e f; counted = rw e n; most = m; proper = rw e a }
-
--- ---- boxes
-pub cover-proper : (es : List Entry) → ProperPlaces es → ProperBox (cover-of its-box es)
-unfolding cover-of
-cover-proper [] a = omega arith
-cover-proper (e ∷ es) a = cover-of-proper its-box a
 
 -- ---- structs
 -- what a struct that is laid out holds
@@ -84,7 +76,7 @@ module _ (p : ℕ) (w : List ℕ) (h : Ready p w) where
 
   pub child-proper : (c : PageNo) → ProperBox (child-place (store-of w .pages) c .bounds)
   unfolding child-place cover-page
-  child-proper c = cover-proper (page-at (store-of w .pages) c .places) (page-proper c)
+  child-proper c = cover-of-all-proper its-box (page-at (store-of w .pages) c .places) (page-proper c)
 
 -- ---- written
 -- a page is replaced
