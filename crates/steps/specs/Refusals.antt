@@ -1,7 +1,7 @@
 -- What a step of each kind can be refused with: of the tests in the table, those that its kind can meet.
 use Prim.Native.Nat.{ℕ, _*_}
-use mathlib.Core.Path.{_≡_, refl}
-use mathlib.Core.Bool.{Bool, true, false, not, _&&_, _||_}
+use mathlib.Core.Path.{_≡_}
+use mathlib.Core.Bool.{Bool, true, false, not, _&&_, or-false}
 use mathlib.Core.List.{List, [], _∷_}
 use lib.Dec.{eqb, leb, ltb}
 use lib.ListN.{length}
@@ -43,10 +43,6 @@ open-tests s x =
 abbrev pub close-tests : Store → Step → List Refusal
 close-tests s x = (9 when leb (length (s .boards)) (x .a)) ∷ (10 when not (is-open (board-at s (x .a)))) ∷ []
 
-or-no : (b : Bool) → (b || false) ≡ b
-or-no true = refl
-or-no false = refl
-
 module _ (s : Store) (x : Step) where
   -- a step that isn't in form is refused with 6
   pub out-of-form : in-form x ≡ false → refusal s x ≡ 6
@@ -56,7 +52,7 @@ module _ (s : Store) (x : Step) where
   module _ (formed : in-form x ≡ true) where
     pub report-refusal : x .kind ≡ 1 → refusal s x ≡ first-met (report-tests s x)
     unfolding refusal first-met
-    report-refusal k = rw (formed, k, or-no (not (proper-box (reported-box x))), or-no (some-one (overfull (reported-row x)) (s .boards)))
+    report-refusal k = rw (formed, k, or-false (not (proper-box (reported-box x))), or-false (some-one (overfull (reported-row x)) (s .boards)))
 
     pub withdraw-refusal : x .kind ≡ 2 → refusal s x ≡ first-met (withdraw-tests s x)
     unfolding refusal first-met
@@ -64,7 +60,7 @@ module _ (s : Store) (x : Step) where
 
     pub open-refusal : x .kind ≡ 5 → refusal s x ≡ first-met (open-tests s x)
     unfolding refusal first-met
-    open-refusal k = rw (formed, k, or-no (is-open (board-at s (x .a))))
+    open-refusal k = rw (formed, k, or-false (is-open (board-at s (x .a))))
 
     pub close-refusal : x .kind ≡ 6 → refusal s x ≡ first-met (close-tests s x)
     unfolding refusal first-met

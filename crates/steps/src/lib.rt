@@ -52,10 +52,16 @@ fn four_zero(x: Step) -> bool
 fn in_form(x: Step) -> bool
     ensures { λ r. ⌜ r ≡ rules.in-form x ⌝ }
 {
-    match x.kind {
+    let kind = x.kind;
+    match kind {
         1 | 5 => true,
         2 | 6 => four_zero(x),
-        3 | 4 => x.a == 0 && four_zero(x),
+        3 | 4 => {
+            if x.a != 0 {
+                return false;
+            }
+            four_zero(x)
+        }
         _ => false,
     }
 }
