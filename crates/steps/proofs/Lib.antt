@@ -1,1 +1,3 @@
 pub mod Form
+pub mod Entries
+pub mod Ways

@@ -1,15 +1,17 @@
 -- What a step asks of the lent words and of the number of entries that it is given, and what it leaves and answers.
-use Prim.Native.Nat.{ℕ, suc, _+_}
-use native.Mathlib.Omega.{arith}
+use Prim.Native.Nat.{ℕ}
 use mathlib.Core.Path.{_≡_, refl, sym, _∙_, ap, subst}
 use mathlib.Core.Bool.{true}
-use mathlib.Core.List.{List, [], _∷_, _++_}
-use lib.ListN.{length, length-append}
+use mathlib.Core.List.{List}
+use lib.ListN.{length}
 use Rattle.rules.specs.declared.Step.{Step}
+use Rattle.rules.specs.Lists.{same-words}
 use Rattle.rules.specs.Store.{Store, words, store-of}
 use Rattle.rules.specs.Live.{held}
-use Rattle.rules.specs.Sound.{sound}
+use Rattle.rules.specs.Sound.{sound, sound-words}
 use Rattle.rules.specs.Steps.{Effect, Done, refusal, effect, step}
+use Rattle.rules.specs.laws.Tests.{and-both}
+use Rattle.rules.specs.laws.Lists.{same-words-self}
 use Rattle.theorems.specs.StepKept.{step-accepted, step-refused}
 use Rattle.theorems.specs.EveryStep.{step-sound}
 use Rattle.parts.specs.InOrder.{Became}
@@ -20,6 +22,10 @@ pub record Given (w : List ℕ) (n : ℕ) : Type 0 where
   pub written : words (store-of w) ≡ w
   pub sound : sound (store-of w) ≡ true
   pub counted : n ≡ length (held (store-of w))
+
+pub given-sound : {w : List ℕ} {n : ℕ} → Given w n → sound-words w ≡ true
+unfolding sound-words
+given-sound {w} g = let same : same-words (words (store-of w)) w ≡ true = rw (g .written) (same-words-self w) in and-both same (g .sound)
 
 -- what an accepted step does: the store and the count are those of its effect
 pub record Effected (e : Effect) (w : List ℕ) (n : ℕ) : Type 0 where
