@@ -21,6 +21,7 @@ use Rattle.rules.specs.laws.Lists.{same-words-equal}
 use Rattle.rules.specs.laws.Rows.{RowsAscend, r-none}
 use Rattle.rules.specs.laws.Words.{Fits, fits-read}
 use Rattle.rules.specs.laws.Parts.{with-memo, with-boards, with-header, next-written}
+use Rattle.rules.specs.laws.Placed.{Placed}
 use Rattle.rules.specs.theorems.Query.{rows-ascend}
 use Rattle.theorems.specs.ProperBoxes.{boxes-proper}
 use Rattle.tree.specs.Putting.{Ready, Grown, with-tree}
@@ -35,6 +36,9 @@ order-fits o =
       slots-used = o .memo .trains;
       boards-fit = all-map (o .boards) λ b h. h .few;
     }
+
+pub lent-placed : (w : List ℕ) → Lent w → Placed w
+lent-placed w l = record { written = l .written; sizes = l .order .sizes; fits = order-fits (l .order) }
 
 -- a board of a sound store: an open one lists what a query gives, a closed one nothing
 board-in-order : (s : Store) (b : Board) → BoardInRange b → (b .isopen ≡ 1 → OpenBoard s b) → BoardInOrder b
