@@ -1,3 +1,5 @@
 pub mod Form
+pub mod Tests
 pub mod Entries
+pub mod Effects
 pub mod Ways

@@ -5,16 +5,20 @@ use mathlib.Core.Bool.{true}
 use mathlib.Core.List.{List}
 use lib.ListN.{length}
 use Rattle.rules.specs.declared.Step.{Step}
+use Rattle.rules.specs.declared.Stamp.{Stamp}
+use Rattle.rules.specs.declared.Train.{Train}
 use Rattle.rules.specs.Lists.{same-words}
 use Rattle.rules.specs.Store.{Store, words, store-of}
 use Rattle.rules.specs.Live.{held}
+use Rattle.rules.specs.Tree.{tree-of}
 use Rattle.rules.specs.Sound.{sound, sound-words}
 use Rattle.rules.specs.Steps.{Effect, Done, refusal, effect, step}
 use Rattle.rules.specs.laws.Tests.{and-both}
 use Rattle.rules.specs.laws.Lists.{same-words-self}
+use Rattle.theorems.specs.Stamped.{stamped}
 use Rattle.theorems.specs.StepKept.{step-accepted, step-refused}
 use Rattle.theorems.specs.EveryStep.{step-sound}
-use Rattle.parts.specs.InOrder.{Became}
+use Rattle.parts.specs.InOrder.{Became, Counted}
 use Rattle.steps.specs.declared.Outcome.{Outcome}
 
 -- the words of a sound store, in whose tree n entries are held
@@ -28,9 +32,13 @@ unfolding sound-words
 given-sound {w} g = let same : same-words (words (store-of w)) w ≡ true = rw (g .written) (same-words-self w) in and-both same (g .sound)
 
 -- what an accepted step does: the store and the count are those of its effect
-pub record Effected (e : Effect) (w : List ℕ) (n : ℕ) : Type 0 where
-  pub became : Became (e .store) w
-  pub counted : n ≡ e .count
+abbrev pub Effected : Effect → List ℕ → ℕ → Type 0
+Effected e w n = Counted (e .store) (e .count) w n
+
+-- what taking a stamp does: the next one, which is answered, is noted as the train's latest
+pub record StampTaken (s : Store) (t : Train) (w : List ℕ) (r : Stamp) : Type 0 where
+  pub became : Became (stamped s t (tree-of s) (s .boards)) w
+  pub taken : r ≡ s .next
 
 -- what a step does, accepted or refused: store, number and count are those of the rules, and the entries held are counted
 pub record Stepped (d : Done) (w : List ℕ) (r : Outcome) : Type 0 where

@@ -1,12 +1,17 @@
 // The steps: what each is refused with, what it does to the store, and the number and count that it writes.
+use rules::Stamp;
 use rules::Step;
+use rules::Train;
 ghost use mathlib.Core.Path.{_≡_};
 ghost use mathlib.Core.Bool.{true};
-ghost use Prim.Native.Nat.{_≤_, _<_};
 ghost use lib.ListN.{length};
+ghost use Rattle.rules.specs.Store.{store-of};
+ghost use Rattle.rules.specs.Sound.{sound-words};
+ghost use Rattle.rules.specs.Numbers.{first-met};
 ghost use Rattle.rules.specs.Steps as rules;
-ghost use Rattle.rules.specs.Store.{limit, store-of};
-ghost use Rattle.steps.specs.Stepping.{Given, Stepped};
+ghost use Rattle.theorems.specs.Accepted.{TakesStamp};
+ghost use Rattle.steps.specs.Refusals.{withdraw-tests};
+ghost use Rattle.steps.specs.Stepping.{Given, Stepped, StampTaken};
 
 // What a step answers, its number and its count; and how many entries the tree holds after it.
 pub struct Outcome {
@@ -63,5 +68,55 @@ fn in_form(x: Step) -> bool
             four_zero(x)
         }
         _ => false,
+    }
+}
+
+// ---- what a step is refused with, the lowest number first; 0 where it is accepted
+
+// How many entries are held is known before, so that no pass over the pages counts them.
+fn withdraw_number(store: &[u32], x: Step) -> u32
+    requires { ⌜ sound-words (now store) ≡ true ⌝ }
+    ensures { λ r. ⌜ r ≡ first-met (withdraw-tests (store-of (now (store .entry))) x) ⌝ }
+{
+    if x.a == 0 {
+        return 7;
+    }
+    let next = header::next_stamp(store);
+    if next.0 == 4294967295 {
+        return 11;
+    }
+    if parts::no_slot_left(store, Train(x.a)) {
+        return 13;
+    }
+    0
+}
+
+// ---- what an accepted step does
+
+// Takes the next stamp and notes it as the train's latest.
+fn take_stamp(store: &mut [u32], t: Train) -> Stamp
+    requires { ⌜ sound-words (now store) ≡ true ⌝ }
+    requires { ⌜ TakesStamp (store-of (now store)) t ⌝ }
+    ensures { λ r. ⌜ StampTaken (store-of (now (store .entry))) t (now (store .exit)) r ⌝ }
+{
+    let stamp = header::next_stamp(store);
+    parts::note(store, t, stamp);
+    header::set_next(store, Stamp(stamp.0 + 1));
+    stamp
+}
+
+// ---- the steps
+
+// Frees each slot whose stamp is below the smallest mark of a leaf.
+fn inspect(store: &mut [u32], x: Step, held: usize) -> Outcome
+    requires { ⌜ Given (now store) held ⌝ }
+    requires { ⌜ (rules.in-form x ≡ true) × (x .kind ≡ 4) ⌝ }
+    ensures { λ r. ⌜ Stepped (rules.step (store-of (now (store .entry))) x) (now (store .exit)) r ⌝ }
+{
+    let freed = parts::inspect(store);
+    Outcome {
+        number: 0,
+        count: freed as u32,
+        held,
     }
 }
