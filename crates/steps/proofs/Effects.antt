@@ -1,33 +1,43 @@
 -- What an accepted step writes, one part after the other, is its effect. Assumes nothing.
-use Prim.Native.Nat.{ℕ, suc, _+_, _-_, _≤_, _<_}
+use Prim.Native.Nat.{ℕ, _+_, _≤_, _<_}
 use native.Mathlib.Omega.{arith}
 use native.Mathlib.Numerals.{add-one}
-use mathlib.Core.Path.{_≡_, refl, sym, _∙_, ap}
-use mathlib.Core.Bool.{Bool, true, false, _&&_}
-use mathlib.Core.List.{List}
+use mathlib.Core.Path.{_≡_, refl, sym, _∙_, ap, subst}
+use mathlib.Core.Bool.{true, false, _&&_, _||_}
+use mathlib.Core.List.{List, map}
 use mir.Syntax.{w32}
 use mir.Val.{Fits as Number}
 use lib.Dec.{leb}
-use lib.ListN.{length, getD, set}
-use borrow.Author.Tests.{lt-leb}
+use lib.ListN.{length, getD, set, take}
+use borrow.Author.Tests.{lt-leb, le-ltb}
 use Rattle.rules.specs.declared.Train.{Train}
 use Rattle.rules.specs.declared.Stamp.{Stamp}
-use Rattle.rules.specs.declared.Slot.{Slot}
+use Rattle.rules.specs.declared.Entry.{Entry}
+use Rattle.rules.specs.declared.Step.{Step}
 use Rattle.rules.specs.declared.LookUp.{LookUp}
-use Rattle.rules.specs.declared.LookUp.the-variants.{Absent, Found}
-use Rattle.rules.specs.Lists.{same-words}
-use Rattle.rules.specs.Store.{Store, limit, stamp, words, store-of}
+use Rattle.rules.specs.declared.LookUp.the-variants.{Absent, Found as At}
+use Rattle.rules.specs.Lists.{same-words, some-one}
+use Rattle.rules.specs.Store.{Board, Store, limit, stamp, closed, words, store-of}
 use Rattle.rules.specs.Memo.{look-up, is-absent, noted, inspected}
+use Rattle.rules.specs.Tree.{tree-of, put-at}
 use Rattle.rules.specs.Cleaning.{smallest-mark}
+use Rattle.rules.specs.Boards.{is-open, lists, told, untold, overfull, touched, opened}
 use Rattle.rules.specs.Sound.{sound, sound-words}
-use Rattle.rules.specs.Steps.{inspect}
-use Rattle.rules.specs.Views.{Sound, sound-holds}
+use Rattle.rules.specs.Steps.{its-train, reported-box, reported-row, its-window, report, withdraw, inspect, open-board, close-board}
+use Rattle.rules.specs.Views.{sound-holds}
 use Rattle.rules.specs.laws.Tests.{and-right}
 use Rattle.rules.specs.laws.All.{All, all-map}
-use Rattle.rules.specs.laws.Parts.{with-memo, with-header}
-use Rattle.theorems.specs.Accepted.{TakesStamp}
+use Rattle.rules.specs.laws.Counts.{count-left}
+use Rattle.rules.specs.laws.Boards.{touched-told}
+use Rattle.rules.specs.laws.Rows.{RowsAscend, no-one}
+use Rattle.rules.specs.laws.Parts.{with-memo, with-boards, with-header}
+use Rattle.rules.specs.theorems.Query.{rows-ascend}
+use Rattle.theorems.specs.Accepted.{TakesStamp, AcceptedReport}
+use Rattle.theorems.specs.Stamped.{stamped}
+use Rattle.tree.specs.Putting.{Grown, with-tree}
+use Rattle.query.specs.Keys.{row-of-key, Found}
 use Rattle.parts.specs.InOrder.{Lent, Became, Counted, freed}
-use Rattle.parts.specs.Laws.{became-lent, became-then, next-became}
+use Rattle.parts.specs.Laws.{became-lent, became-then, next-became, grown-became}
 use Rattle.steps.specs.Stepping.{Effected, StampTaken}
 
 -- what is lent is sound
@@ -49,7 +59,7 @@ module _ (w : List ℕ) (e : sound-words w ≡ true) where
       where
         go : (f : LookUp) → look-up t (store-of w .memo) ≡ f → (is-absent f && leb (store-of w .slots) (length (store-of w .memo))) ≡ false
         go Absent q = lt-leb _ _ (h .slot-room q)
-        go (Found place latest old) q = refl
+        go (At place latest old) q = refl
 
     module _ (r : Stamp) (read : r ≡ stamp (getD w 1 0)) where
       next-read : r ≡ store-of w .next
@@ -70,6 +80,64 @@ module _ (w : List ℕ) (e : sound-words w ≡ true) where
             taken = next-read;
           }
 
+-- ---- the boards told, and those counted that list the train
+few-boards : (t : Train) (tell : Board → Board) (bs : List Board) → length bs ≤ 32 → (n : ℕ) → n ≡ touched t bs (map tell bs) → Number w32 n
+few-boards t tell bs h n e =
+    record { fits = omega (arith, touched-told t tell bs, count-left (λ b. is-open b && (lists t b || lists t (tell b))) bs) }
+
+counted-then : {s : Store} {w w′ : List ℕ} {n : ℕ} (f : Store → Store) (g : Store → ℕ) → Became s w → Counted (f (store-of w)) (g (store-of w)) w′ n → Counted (f s) (g s) w′ n
+counted-then f g a b = rw (a .stored) at b
+
+-- ---- a report
+module _ (w : List ℕ) (x : Step) (e : sound-words w ≡ true) (allowed : AcceptedReport (store-of w) x) (w₁ : List ℕ) (r : Stamp) (h : StampTaken (store-of w) (its-train x) w₁ r) where
+  abbrev s : Store
+  s = store-of w
+
+  pub put-levels : (1 ≤ store-of w₁ .levels) × (store-of w₁ .levels < limit)
+  put-levels =
+      let S = sound-holds s (sound-lent-store w e) in
+      let l : store-of w₁ .levels ≡ s .levels = ap (λ u. u .levels) (h .became .stored) in
+      (omega (arith, S .ranges .header .levels-least), omega (arith, S .ranges .header .levels-most))
+
+  abbrev entry : Stamp → Entry
+  entry z = record { bounds = reported-box x; key = x .a; stamp = z }
+
+  module _ (w₂ : List ℕ) (g : Grown (length (store-of w₁ .pages)) w₁ (put-at 1 (entry r) (tree-of (store-of w₁))) w₂) where
+    abbrev taken : Store
+    taken = stamped s (its-train x) (tree-of s) (s .boards)
+
+    put-became : Became (with-tree taken (put-at 1 (entry (s .next)) (tree-of s))) w₂
+    put-became =
+        subst (λ z. Became (with-tree taken (put-at 1 (entry z) (tree-of s))) w₂) (h .taken)
+        (became-then (λ u. with-tree u (put-at 1 (entry r) (tree-of u))) (h .became) (grown-became (became-lent (h .became)) g))
+
+    pub put-lent : Lent w₂
+    put-lent = became-lent put-became
+
+    pub none-overfull : some-one (overfull (reported-row x)) (store-of w₂ .boards) ≡ false
+    unfolding overfull
+    none-overfull = rw (ap (λ u. u .boards) (put-became .stored)) (no-one _ (all-map (allowed .rows-room) λ b k. le-ltb _ _ k))
+
+    module _ (w₃ : List ℕ) (n : ℕ) (c : Counted (with-boards (store-of w₂) (map (told (reported-row x)) (store-of w₂ .boards))) (touched (its-train x) (store-of w₂ .boards) (map (told (reported-row x)) (store-of w₂ .boards))) w₃ n) where
+      pub report-fits : Number w32 n
+      report-fits = few-boards (its-train x) (told (reported-row x)) (store-of w₂ .boards) (put-lent .order .sizes .boards-most) n (c .counted)
+
+      pub report-effect : Effected (report s x) w₃ n
+      unfolding report
+      report-effect =
+          counted-then (λ u. with-boards u (map (told (reported-row x)) (u .boards))) (λ u. touched (its-train x) (u .boards) (map (told (reported-row x)) (u .boards))) put-became c
+
+-- ---- a withdrawal
+module _ (w : List ℕ) (x : Step) (w₁ : List ℕ) (r : Stamp) (h : StampTaken (store-of w) (its-train x) w₁ r)
+    (w₂ : List ℕ) (n : ℕ) (c : Counted (with-boards (store-of w₁) (map (untold (its-train x)) (store-of w₁ .boards))) (touched (its-train x) (store-of w₁ .boards) (map (untold (its-train x)) (store-of w₁ .boards))) w₂ n) where
+  pub withdraw-fits : Number w32 n
+  withdraw-fits = few-boards (its-train x) (untold (its-train x)) (store-of w₁ .boards) (became-lent (h .became) .order .sizes .boards-most) n (c .counted)
+
+  pub withdraw-effect : Effected (withdraw (store-of w) x) w₂ n
+  unfolding withdraw
+  withdraw-effect =
+      counted-then (λ u. with-boards u (map (untold (its-train x)) (u .boards))) (λ u. touched (its-train x) (u .boards) (map (untold (its-train x)) (u .boards))) (h .became) c
+
 -- ---- inspecting
 module _ (w : List ℕ) (l : Lent w) (w′ : List ℕ) (r : ℕ)
     (h : Counted (with-memo (store-of w) (inspected (smallest-mark (store-of w .pages)) (store-of w .memo))) (freed (smallest-mark (store-of w .pages)) (store-of w .memo)) w′ r) where
@@ -79,3 +147,17 @@ module _ (w : List ℕ) (l : Lent w) (w′ : List ℕ) (r : ℕ)
   pub inspect-effect : Effected (inspect (store-of w)) w′ r
   unfolding inspect
   inspect-effect = h
+
+-- ---- a board opened or closed
+pub close-effect : (w : List ℕ) (x : Step) (w′ : List ℕ) → Became (with-boards (store-of w) (set (store-of w .boards) (x .a) closed)) w′ → Effected (close-board (store-of w) x) w′ 0
+unfolding close-board
+close-effect w x w′ b = record { became = b; counted = refl }
+
+module _ (w : List ℕ) (x : Step) (keys work : List ℕ) (n : ℕ) (keys′ work′ : List ℕ) (f : Found (store-of w) (its-window x) keys work n keys′ work′) where
+  pub rows-listed : RowsAscend (map (row-of-key (store-of w .pages)) (take n keys′))
+  rows-listed = rw (f .rows) (rows-ascend (store-of w) (its-window x))
+
+  pub open-effect : (w′ : List ℕ) → Became (with-boards (store-of w) (set (store-of w .boards) (x .a) (opened (its-window x) (map (row-of-key (store-of w .pages)) (take n keys′))))) w′
+      → Effected (open-board (store-of w) x) w′ n
+  unfolding open-board
+  open-effect w′ b = record { became = rw (f .rows) at b; counted = f .many }
