@@ -17,8 +17,8 @@ use Rattle.rules.specs.laws.Words.{Fits, words-length}
 use Rattle.page.specs.declared.Page.{Page}
 use Rattle.page.specs.Struct.{laid-page, struct-at}
 use Rattle.page.specs.Laws.{struct-there}
-use Rattle.memo.specs.Slots.{slots-in, MemoWords, HoldsMemo}
-use Rattle.memo.specs.Laws.{memo-given, so-latest}
+use Rattle.memo.specs.Slots.{slots-in, HoldsMemo}
+use Rattle.memo.specs.Laws.{so-latest}
 use Rattle.query.specs.Keys.{hit, Searchable}
 use Rattle.query.specs.Descent.{page-holds}
 
@@ -67,14 +67,11 @@ module _ (v : List ℕ) (h : Searchable v) where
         memo = h .ranges .memo;
       }
 
-  module _ (m : List ℕ) (part : m ≡ memo-words (store-of v .slots) (store-of v .memo)) where
-    pub memo-lent : MemoWords m
-    memo-lent = memo-given _ _ (h .ranges .memo) m part
-
-    pub hit-latest : (e : Entry) (w : Window) (b r : Bool) → b ≡ meets (e .bounds) w → b ≡ true → r ≡ is-latest (slots-in m) e → r ≡ hit (store-of v .memo) w e
-    unfolding hit
-    hit-latest e w b r y t q =
-        so-latest _ _ (h .ranges .memo) m part e r q ∙ sym (rw (sym y ∙ t) (and-true (is-latest (store-of v .memo) e)))
+  pub hit-latest : (m : List ℕ) → m ≡ memo-words (store-of v .slots) (store-of v .memo) → (e : Entry) (w : Window) (b r : Bool) → b ≡ meets (e .bounds) w → b ≡ true
+      → r ≡ is-latest (slots-in m) e → r ≡ hit (store-of v .memo) w e
+  unfolding hit
+  hit-latest m part e w b r y t q =
+      so-latest _ _ (h .ranges .memo) m part e r q ∙ sym (rw (sym y ∙ t) (and-true (is-latest (store-of v .memo) e)))
 
 -- ---- an entry whose box doesn't meet the window isn't listed
 pub no-hit : (v : List ℕ) (e : Entry) (w : Window) (b : Bool) → b ≡ meets (e .bounds) w → b ≡ false → false ≡ hit (store-of v .memo) w e

@@ -1,6 +1,7 @@
 -- `query::is_hit` meets its contract: the memo's part of the store is lent to be looked up in. Assumes nothing.
 use borrow.Author.Needs.{needs}
-use Rattle.query.proofs.Lent.{memo-held, memo-lent, hit-latest, no-hit}
+use Rattle.memo.specs.Laws.{memo-given}
+use Rattle.query.proofs.Lent.{memo-held, hit-latest, no-hit}
 use Rattle.query.proofs.is_hit.Statement.{statement}
 use Rattle.query.proofs.is_hit.Tie as tie
 
@@ -10,6 +11,6 @@ is-hit-spec =
     (tie.spec
     (λ c κs. search needs)
     (λ c κs. search (needs, memo-held))
-    (λ c κs. search (needs, memo-lent))
+    (λ c κs. search (needs, memo-given))
     (λ c. search (needs, hit-latest))
     (λ c. search (needs, no-hit)))
