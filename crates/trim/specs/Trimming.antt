@@ -5,10 +5,11 @@ use mathlib.Core.List.{List}
 use Rattle.rules.specs.declared.PageNo.{PageNo}
 use Rattle.rules.specs.declared.Entry.{Entry}
 use Rattle.rules.specs.declared.Slot.{Slot}
-use Rattle.rules.specs.Lists.{keep}
-use Rattle.rules.specs.Store.{Page as Contents, Store, page-at, store-of}
+use Rattle.rules.specs.Lists.{keep, first}
+use Rattle.rules.specs.Store.{Page as Contents, Store, child-of, page-at, store-of}
 use Rattle.rules.specs.Memo.{is-latest, is-obsolete}
 use Rattle.rules.specs.Tree.{with-places}
+use Rattle.rules.specs.Cleaning.{reached-under, among}
 use Rattle.rules.specs.Views.{MemoInRange}
 use Rattle.tree.specs.Putting.{Ready}
 
@@ -27,3 +28,12 @@ kept-by false memo = is-obsolete memo
 -- page `at` with only its latest places, or only its obsolete ones
 abbrev pub page-kept : Bool → Store → PageNo → Contents
 page-kept latest s at = with-places (page-at (s .pages) at) (keep (kept-by latest (s .memo)) (page-at (s .pages) at .places))
+
+-- ---- the way to the leaf
+-- whether page `at` at this level is q, or one of the pages under it is
+abbrev pub leads-to : List Contents → ℕ → PageNo → PageNo → Bool
+leads-to ps level q at = among q (reached-under ps level at)
+
+-- the first of the places whose child at this level leads to q
+abbrev pub way : List Contents → ℕ → PageNo → List Entry → ℕ
+way ps level q es = first (λ e. leads-to ps level q (child-of e)) es

@@ -4,14 +4,16 @@ use page::Page;
 use rules::Entry;
 use rules::PageNo;
 ghost use mathlib.Core.Path.{_≡_};
+ghost use Prim.Native.Nat.{_≤_};
 ghost use lib.ListN.{length};
 ghost use Rattle.rules.specs.Lists.{keep};
 ghost use Rattle.rules.specs.Memo as rules;
 ghost use Rattle.rules.specs.Store.{page-at, store-of};
 ghost use Rattle.rules.specs.Tree.{with-places};
-ghost use Rattle.page.specs.Struct.{laid-page};
+ghost use Rattle.page.specs.Struct.{contents, laid-page};
 ghost use Rattle.memo.specs.Slots.{HoldsMemo};
-ghost use Rattle.trim.specs.Trimming.{Readable, kept-by, page-kept};
+ghost use Rattle.tree.specs.Putting.{Ready, Laid};
+ghost use Rattle.trim.specs.Trimming.{Readable, kept-by, page-kept, leads-to, way};
 
 // ---- what a leaf keeps
 
@@ -64,4 +66,39 @@ pub fn obsolete_in(store: &[u32], at: PageNo) -> Page
     ensures { λ r. ⌜ r ≡ laid-page (with-places (page-at (store-of (now (store .entry)) .pages) at) (keep (rules.is-obsolete (store-of (now (store .entry)) .memo)) (page-at (store-of (now (store .entry)) .pages) at .places))) ⌝ }
 {
     kept_in(store, header::pages(store), at, false)
+}
+
+// ---- the way to the leaf
+
+// Whether q is among the pages under page `at`, itself one of them, which stands at this level; no leaf is read.
+fn reaches(store: &[u32], p: usize, level: u32, at: PageNo, q: PageNo) -> bool
+    requires { ⌜ Ready p (now store) × (1 ≤ level) ⌝ }
+    ensures { λ r. ⌜ r ≡ leads-to (store-of (now (store .entry)) .pages) level q at ⌝ }
+{
+    if at.0 == q.0 {
+        return true;
+    }
+    if level == 1 {
+        return false;
+    }
+    let g = page::page_at(store, p, at);
+    let n = g.count as usize;
+    way_to(store, p, level - 1, g, q) < n
+}
+
+// The first place of g whose child, which stands at this level, leads to q; where none does, how many there are.
+fn way_to(store: &[u32], p: usize, level: u32, g: Page, q: PageNo) -> usize
+    requires { ⌜ Ready p (now store) × Laid g × (1 ≤ level) ⌝ }
+    ensures { λ r. ⌜ r ≡ way (store-of (now (store .entry)) .pages) level q (contents g .places) ⌝ }
+{
+    let n = g.count as usize;
+    let mut i = 0;
+    while i < n {
+        let e = page::place_at(g, i);
+        if reaches(store, p, level, PageNo(e.key), q) {
+            return i;
+        }
+        i += 1;
+    }
+    i
 }
