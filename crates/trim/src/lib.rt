@@ -3,8 +3,9 @@
 use page::Page;
 use rules::Entry;
 use rules::PageNo;
+use rules::Stamp;
 ghost use mathlib.Core.Path.{_≡_};
-ghost use Prim.Native.Nat.{_≤_};
+ghost use Prim.Native.Nat.{_+_, _-_, _≤_, _<_};
 ghost use lib.ListN.{length};
 ghost use Rattle.rules.specs.Lists.{keep};
 ghost use Rattle.rules.specs.Memo as rules;
@@ -12,8 +13,20 @@ ghost use Rattle.rules.specs.Store.{page-at, store-of};
 ghost use Rattle.rules.specs.Tree.{with-places};
 ghost use Rattle.page.specs.Struct.{contents, laid-page};
 ghost use Rattle.memo.specs.Slots.{HoldsMemo};
-ghost use Rattle.tree.specs.Putting.{Ready, Laid};
-ghost use Rattle.trim.specs.Trimming.{Readable, kept-by, page-kept, leads-to, way};
+ghost use Rattle.tree.specs.Putting.{Ready, Laid, Wrote};
+ghost use Rattle.trim.specs.Trimming.{Readable, kept-by, page-kept, leads-to, way, Added, Waits, trimmed-in, child-freed, child-renewed, trimmed-place, so-far, TrimmedTo, LeafBelow};
+
+// A place that waits to be put back, and the level of the page that it goes into.
+struct Orphan {
+    level: u32,
+    place: Entry,
+}
+
+// Those that wait, the first `count` of the list: fewer than four places of one page on each of four levels.
+struct Orphans {
+    count: usize,
+    list: [Orphan; 12],
+}
 
 // ---- what a leaf keeps
 
@@ -101,4 +114,115 @@ fn way_to(store: &[u32], p: usize, level: u32, g: Page, q: PageNo) -> usize
         i += 1;
     }
     i
+}
+
+// ---- taking out what is thin
+
+fn no_orphans() -> Orphans
+    ensures { λ r. ⌜ r .count ≡ 0 ⌝ }
+{
+    let none = Orphan {
+        level: 0,
+        place: page::no_place(),
+    };
+    Orphans {
+        count: 0,
+        list: [none; 12],
+    }
+}
+
+// The places of g, a page at this level that is freed, wait behind the others.
+fn add_orphans(waiting: Orphans, level: u32, g: Page) -> Orphans
+    requires { ⌜ Laid g × (waiting .count + g .count ≤ 12) ⌝ }
+    ensures { λ r. ⌜ Added waiting level (contents g .places) r ⌝ }
+{
+    let n = g.count as usize;
+    let mut r = waiting;
+    let mut i = 0;
+    while i < n {
+        let k = r.count;
+        r.list[k] = Orphan {
+            level,
+            place: page::place_at(g, i),
+        };
+        r.count += 1;
+        i += 1;
+    }
+    r
+}
+
+// The leaf keeps its latest entries and gets the mark.
+fn trim_leaf(store: &mut [u32], p: usize, at: PageNo, mark: Stamp)
+    requires { ⌜ Readable p (now store) ⌝ }
+    ensures { λ _. ⌜ Wrote p (now (store .entry)) (trimmed-in (now (store .entry)) mark 0 at at .pages) (now (store .exit)) ⌝ }
+{
+    let mut g = kept_in(store, p, at, true);
+    g.kind = 1;
+    g.mark = mark;
+    page::put_page(store, p, at, g);
+}
+
+// Frees page c, which page `at`, read as g, has in place i: its place there goes too.
+fn free_child(store: &mut [u32], p: usize, at: PageNo, g: Page, i: usize, c: PageNo)
+    requires { ⌜ Ready p (now store) × Laid g × (i < g .count) ⌝ }
+    ensures { λ _. ⌜ Wrote p (now (store .entry)) (child-freed (store-of (now (store .entry)) .pages) at (contents g) i c) (now (store .exit)) ⌝ }
+{
+    page::put_page(store, p, c, page::empty_page());
+    page::put_page(store, p, at, page::remove_place(g, i));
+}
+
+// Makes the box of page c anew, which page `at`, read as g, has in place i.
+fn renew_child(store: &mut [u32], p: usize, at: PageNo, g: Page, i: usize, c: PageNo)
+    requires { ⌜ Ready p (now store) × Laid g × (i < g .count) ⌝ }
+    ensures { λ _. ⌜ Wrote p (now (store .entry)) (child-renewed (store-of (now (store .entry)) .pages) at (contents g) i c) (now (store .exit)) ⌝ }
+{
+    let place = tree::child_place(store, p, c);
+    page::put_page(store, p, at, page::set_place(g, i, place));
+}
+
+// Page `at`, read as g, once its child c at this level, in place i, has been trimmed: a thin child is freed and its places wait.
+fn trim_place(
+    store: &mut [u32],
+    p: usize,
+    level: u32,
+    at: PageNo,
+    g: Page,
+    i: usize,
+    c: PageNo,
+    waiting: Orphans,
+) -> Orphans
+    requires { ⌜ Ready p (now store) × Laid g × (i < g .count) × (1 ≤ level) × (level ≤ 4) × Waits (level - 1) waiting ⌝ }
+    ensures { λ r. ⌜ TrimmedTo p (now (store .entry)) level (trimmed-place level at (contents g) i c (so-far (now (store .entry)) waiting)) (now (store .exit)) r ⌝ }
+{
+    let left = page::page_at(store, p, c);
+    if left.count < 4 {
+        free_child(store, p, at, g, i, c);
+        return add_orphans(waiting, level, left);
+    }
+    renew_child(store, p, at, g, i, c);
+    waiting
+}
+
+// Trims the leaf q, which stands `depth` levels below page `at`: it calls itself for the child that leads there.
+fn trim_below(
+    store: &mut [u32],
+    p: usize,
+    depth: u32,
+    at: PageNo,
+    q: PageNo,
+    mark: Stamp,
+) -> Orphans
+    requires { ⌜ Readable p (now store) × (depth ≤ 4) × LeafBelow (now store) depth at q ⌝ }
+    ensures { λ r. ⌜ TrimmedTo p (now (store .entry)) depth (trimmed-in (now (store .entry)) mark depth at q) (now (store .exit)) r ⌝ }
+{
+    if depth == 0 {
+        trim_leaf(store, p, at, mark);
+        return no_orphans();
+    }
+    let g = page::page_at(store, p, at);
+    let i = way_to(store, p, depth, g, q);
+    let place = page::place_at(g, i);
+    let child = PageNo(place.key);
+    let waiting = trim_below(store, p, depth - 1, child, q, mark);
+    trim_place(store, p, depth, at, g, i, child, waiting)
 }
