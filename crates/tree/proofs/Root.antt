@@ -19,7 +19,7 @@ use Rattle.page.specs.Laws.{laid-added}
 use Rattle.tree.specs.declared.Written.{Written}
 use Rattle.tree.specs.declared.Written.the-variants.{Whole, Parted}
 use Rattle.tree.specs.Putting.{Ready, Put, Grown, with-tree, NewRoot, over-root, raised}
-use Rattle.tree.specs.Laws.{room, levels-read, root-read, free-read, child-proper, page-put, grown-from}
+use Rattle.tree.specs.Laws.{room, levels-read, root-read, free-read, child-proper, page-put, grown-from, wrote-grown}
 
 empty-inner : (f : Page) → f ≡ laid-page free-page → record { kind = 2; count = f .count; mark = f .mark; places = f .places } ≡ laid-page (record { kind = 2; mark = stamp 0; places = [] })
 unfolding laid-page
@@ -65,7 +65,7 @@ module _ (p : ℕ) (w : List ℕ) (h : Ready p w) where
 -- ---- down from the root
 whole-grown : {p : ℕ} {w : List ℕ} (r : Result) {w₁ : List ℕ} {a : Written} → Put p w r w₁ a → a ≡ Whole → Grown p w (rooted (store-of w .root) (store-of w .levels) r) w₁
 unfolding rooted
-whole-grown (whole ps) put k = record { wrote = put .pages .wrote; stored = put .pages .stored; ready = put .pages .ready }
+whole-grown (whole ps) put k = wrote-grown (put .pages)
 whole-grown (parted ps q) put k = let z : _≡_ {A = ℕ} 0 1 = cc (put .answers) in absurd (omega arith)
 
 parted-grown : {p : ℕ} {w : List ℕ} (r : Result) {w₁ : List ℕ} {a : Written} (q : PageNo) (w₂ : List ℕ) → Put p w r w₁ a → a ≡ Parted q → Grown p w₁ (raised (store-of w₁) q) w₂

@@ -9,7 +9,7 @@ use Rattle.rules.specs.declared.Entry.{Entry}
 use Rattle.rules.specs.Lists.{padded}
 use Rattle.rules.specs.Boxes.{cover-of}
 use Rattle.rules.specs.Store.{Page as Contents, Store, page-no, free-page, page-at, put-page, pages-of, store-length, header-words, words, store-of}
-use Rattle.rules.specs.Tree.{its-box, lowest-free, child-place, cover-page}
+use Rattle.rules.specs.Tree.{Tree, tree-of, its-box, lowest-free, child-place, cover-page}
 use Rattle.rules.specs.Views.{ProperBox}
 use Rattle.rules.specs.laws.All.{All, none, all-set, all-anywhere}
 use Rattle.rules.specs.laws.Boxes.{cover-of-proper}
@@ -19,7 +19,7 @@ use Rattle.rules.specs.laws.Header.{root-there, levels-there, pages-there}
 use Rattle.page.specs.declared.Page.{Page}
 use Rattle.page.specs.Struct.{contents, laid-page, struct-at, with-struct}
 use Rattle.page.specs.Laws.{laid-contents, laid-places, pages-length, struct-there, struct-written}
-use Rattle.tree.specs.Putting.{ProperPlaces, Ready, Laid, Wrote, Grown}
+use Rattle.tree.specs.Putting.{ProperPlaces, Ready, Laid, Wrote, Grown, with-tree}
 
 -- ---- words and back
 -- a store whose parts fit is read back from its words
@@ -159,3 +159,23 @@ grown-from {p} {w} {ps} {w₁} t root levels w′ e =
       stored = rw q (fits-read z fit);
       ready = rw q (ready-words p z fit (rw (t .stored) at (t .ready .counted)) (t .ready .most) (rw (t .stored) at (t .ready .proper)));
     }
+
+-- the words of a store with another tree, and again with another
+pub grown-then : {p : ℕ} {w : List ℕ} {t : Tree} {w′ : List ℕ} {t′ : Tree} {w″ : List ℕ} → Grown p w t w′ → Grown p w′ t′ w″ → Grown p w t′ w″
+grown-then {t′ = t′} a b =
+    record {
+      wrote = b .wrote ∙ ap (λ s. words (with-tree s t′)) (a .stored);
+      stored = b .stored ∙ ap (λ s. with-tree s t′) (a .stored);
+      ready = b .ready;
+    }
+
+pub grown-tree : {p : ℕ} {w : List ℕ} {t : Tree} {w′ : List ℕ} → Grown p w t w′ → tree-of (store-of w′) ≡ t
+grown-tree a = ap tree-of (a .stored)
+
+-- only the pages are others
+pub wrote-grown : {p : ℕ} {w : List ℕ} {ps : List Contents} {w′ : List ℕ} → Wrote p w ps w′ → Grown p w (record { root = store-of w .root; levels = store-of w .levels; pages = ps }) w′
+wrote-grown a = record { wrote = a .wrote; stored = a .stored; ready = a .ready }
+
+-- nothing has changed
+pub grown-same : {p : ℕ} {w : List ℕ} → Ready p w → Grown p w (tree-of (store-of w)) w
+grown-same h = record { wrote = sym (h .written); stored = refl; ready = h }

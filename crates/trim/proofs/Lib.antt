@@ -3,3 +3,4 @@ pub mod Keeping
 pub mod Ways
 pub mod Waiting
 pub mod Thin
+pub mod Whole

@@ -1,5 +1,5 @@
 -- What cleaning asks of a store's words, what it leaves, and what waits meanwhile to be put back.
-use Prim.Native.Nat.{ℕ, _+_, _*_, _≤_}
+use Prim.Native.Nat.{ℕ, _+_, _*_, _-_, _≤_}
 use mathlib.Core.Path.{_≡_}
 use mathlib.Core.Bool.{Bool, true, false, cond}
 use mathlib.Core.List.{List, _++_, map}
@@ -12,7 +12,7 @@ use Rattle.rules.specs.declared.Slot.{Slot}
 use Rattle.rules.specs.Lists.{keep, first, without}
 use Rattle.rules.specs.Store.{Page as Contents, Store, child-of, free-page, page-at, put-page, store-of}
 use Rattle.rules.specs.Memo.{is-latest, is-obsolete}
-use Rattle.rules.specs.Tree.{with-places, child-place}
+use Rattle.rules.specs.Tree.{Tree, with-places, child-place}
 use Rattle.rules.specs.Cleaning.{Orphan as Waiting, Trimmed, reached-under, among, path-to, trimmed-below}
 use Rattle.rules.specs.Views.{MemoInRange, ProperBox}
 use Rattle.rules.specs.laws.All.{All}
@@ -106,3 +106,15 @@ pub record TrimmedTo (p : ℕ) (w : List ℕ) (depth : ℕ) (t : Trimmed) (w′ 
   pub pages : Wrote p w (t .pages) w′
   pub orphans : held-by o ≡ t .orphans
   pub waits : Waits depth o
+
+-- ---- the whole tree
+-- the root page is freed, and its child c is the root
+abbrev pub root-lowered : Tree → PageNo → Tree
+root-lowered t c = record { root = c; levels = t .levels - 1; pages = put-page (t .pages) (t .root) free-page }
+
+-- the words of a store of at most five levels, of which q is a leaf
+pub record Cleanable (q : PageNo) (w : List ℕ) : Type 0 where
+  pub readable : Readable (length (store-of w .pages)) w
+  pub levels-least : 1 ≤ store-of w .levels
+  pub levels-most : store-of w .levels ≤ 5
+  pub leaf : LeafBelow w (store-of w .levels - 1) (store-of w .root) q

@@ -10,11 +10,12 @@ ghost use lib.ListN.{length};
 ghost use Rattle.rules.specs.Lists.{keep};
 ghost use Rattle.rules.specs.Memo as rules;
 ghost use Rattle.rules.specs.Store.{page-at, store-of};
-ghost use Rattle.rules.specs.Tree.{with-places};
+ghost use Rattle.rules.specs.Tree.{with-places, tree-of};
+ghost use Rattle.rules.specs.Cleaning.{put-back, given-way, cleaned};
 ghost use Rattle.page.specs.Struct.{contents, laid-page};
 ghost use Rattle.memo.specs.Slots.{HoldsMemo};
-ghost use Rattle.tree.specs.Putting.{Ready, Laid, Wrote};
-ghost use Rattle.trim.specs.Trimming.{Readable, kept-by, page-kept, leads-to, way, Added, Waits, trimmed-in, child-freed, child-renewed, trimmed-place, so-far, TrimmedTo, LeafBelow};
+ghost use Rattle.tree.specs.Putting.{Ready, Laid, Wrote, Grown};
+ghost use Rattle.trim.specs.Trimming.{Readable, kept-by, page-kept, leads-to, way, Added, Waits, trimmed-in, child-freed, child-renewed, trimmed-place, so-far, TrimmedTo, LeafBelow, held-by, root-lowered, Cleanable};
 
 // A place that waits to be put back, and the level of the page that it goes into.
 struct Orphan {
@@ -225,4 +226,62 @@ fn trim_below(
     let child = PageNo(place.key);
     let waiting = trim_below(store, p, depth - 1, child, q, mark);
     trim_place(store, p, depth, at, g, i, child, waiting)
+}
+
+// ---- the whole tree
+
+// Puts back what waits, in turn, each place into a page at its level.
+fn put_back(store: &mut [u32], waiting: Orphans)
+    requires { ⌜ Ready (length (store-of (now store) .pages)) (now store) ⌝ }
+    requires { ⌜ (store-of (now store) .levels ≤ 5) × Waits (store-of (now store) .levels - 1) waiting ⌝ }
+    ensures { λ _. ⌜ Grown (length (store-of (now (store .entry)) .pages)) (now (store .entry)) (put-back (held-by waiting) (tree-of (store-of (now (store .entry))))) (now (store .exit)) ⌝ }
+{
+    let n = waiting.count;
+    let mut i = 0;
+    while i < n {
+        let o = waiting.list[i];
+        tree::put_at(store, o.level, o.place);
+        i += 1;
+    }
+}
+
+// Frees the root page; its child c is the root, one level lower.
+fn lower_root(store: &mut [u32], p: usize, c: PageNo)
+    requires { ⌜ Ready p (now store) × (1 ≤ store-of (now store) .levels) ⌝ }
+    ensures { λ _. ⌜ Grown p (now (store .entry)) (root-lowered (tree-of (store-of (now (store .entry)))) c) (now (store .exit)) ⌝ }
+{
+    let levels = header::levels(store);
+    let root = header::root(store);
+    page::put_page(store, p, root, page::empty_page());
+    header::set_root(store, c);
+    header::set_levels(store, levels - 1);
+}
+
+// An inner root with one child gives way to it.
+fn give_way(store: &mut [u32], p: usize)
+    requires { ⌜ Ready p (now store) × (1 ≤ store-of (now store) .levels) ⌝ }
+    ensures { λ _. ⌜ Grown p (now (store .entry)) (given-way (tree-of (store-of (now (store .entry))))) (now (store .exit)) ⌝ }
+{
+    let g = page::page_at(store, p, header::root(store));
+    if g.kind != 2 {
+        return;
+    }
+    if g.count != 1 {
+        return;
+    }
+    let only = page::place_at(g, 0);
+    lower_root(store, p, PageNo(only.key));
+}
+
+// Cleans the leaf q, which gets the mark.
+pub fn clean_tree(store: &mut [u32], q: PageNo, mark: Stamp)
+    requires { ⌜ Cleanable q (now store) ⌝ }
+    ensures { λ _. ⌜ Grown (length (store-of (now (store .entry)) .pages)) (now (store .entry)) (cleaned (keep (rules.is-latest (store-of (now (store .entry)) .memo))) mark q (tree-of (store-of (now (store .entry))))) (now (store .exit)) ⌝ }
+{
+    let p = header::pages(store);
+    let root = header::root(store);
+    let depth = header::levels(store) - 1;
+    let waiting = trim_below(store, p, depth, root, q, mark);
+    put_back(store, waiting);
+    give_way(store, p);
 }
