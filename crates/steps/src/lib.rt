@@ -11,7 +11,7 @@ ghost use Rattle.rules.specs.Numbers.{first-met};
 ghost use Rattle.rules.specs.Steps as rules;
 ghost use Rattle.theorems.specs.Accepted.{TakesStamp};
 ghost use Rattle.steps.specs.Refusals.{withdraw-tests};
-ghost use Rattle.steps.specs.Stepping.{Given, Stepped, StampTaken};
+ghost use Rattle.steps.specs.Stepping.{Given, Effected, Stepped, StampTaken};
 
 // What a step answers, its number and its count; and how many entries the tree holds after it.
 pub struct Outcome {
@@ -105,7 +105,34 @@ fn take_stamp(store: &mut [u32], t: Train) -> Stamp
     stamp
 }
 
+// Takes the obsolete entries out of the leaf with the smallest mark, which becomes the next stamp, and says how many they were.
+fn clean_leaf(store: &mut [u32]) -> u32
+    requires { ⌜ sound-words (now store) ≡ true ⌝ }
+    ensures { λ r. ⌜ Effected (rules.clean (store-of (now (store .entry)))) (now (store .exit)) r ⌝ }
+{
+    let q = page::leaf_to_clean(store, header::pages(store));
+    let gone = trim::obsolete_in(store, q);
+    let next = header::next_stamp(store);
+    trim::clean_tree(store, q, next);
+    parts::lower_all(store, gone);
+    gone.count
+}
+
 // ---- the steps
+
+// Cleans one leaf.
+fn clean(store: &mut [u32], x: Step, held: usize) -> Outcome
+    requires { ⌜ Given (now store) held ⌝ }
+    requires { ⌜ (rules.in-form x ≡ true) × (x .kind ≡ 3) ⌝ }
+    ensures { λ r. ⌜ Stepped (rules.step (store-of (now (store .entry))) x) (now (store .exit)) r ⌝ }
+{
+    let removed = clean_leaf(store);
+    Outcome {
+        number: 0,
+        count: removed,
+        held: held - removed as usize,
+    }
+}
 
 // Frees each slot whose stamp is below the smallest mark of a leaf.
 fn inspect(store: &mut [u32], x: Step, held: usize) -> Outcome
