@@ -6,19 +6,23 @@ use mathlib.Core.Bool.{Bool, true, false}
 use mathlib.Core.List.{List}
 use lib.Dec.{eqb}
 use lib.ListN.{length, set}
-use borrow.Author.Tests.{eqb-true, eqb-false}
+use borrow.Author.Tests.{eqb-true, eqb-false, ltb-false}
+use Rattle.rules.specs.declared.Row.{Row}
 use Rattle.rules.specs.declared.Slot.{Slot}
 use Rattle.rules.specs.declared.Stamp.{Stamp}
 use Rattle.rules.specs.declared.PageNo.{PageNo}
+use Rattle.rules.specs.declared.Train.{Train}
 use Rattle.rules.specs.Lists.{same-words}
-use Rattle.rules.specs.Store.{Board, Store, words, store-of}
+use Rattle.rules.specs.Boxes.{meets}
+use Rattle.rules.specs.Store.{Board, Store, row-limit, closed, words, store-of}
 use Rattle.rules.specs.Tree.{Tree}
+use Rattle.rules.specs.Boards.{is-open, told, untold, overfull}
 use Rattle.rules.specs.Sound.{sound-words}
 use Rattle.rules.specs.Views.{MemoInRange, BoardInRange, OpenBoard, sound-holds}
-use Rattle.rules.specs.laws.Tests.{and-left, and-right}
+use Rattle.rules.specs.laws.Tests.{either, and-left, and-right}
 use Rattle.rules.specs.laws.All.{All, all-map, all-zip}
 use Rattle.rules.specs.laws.Lists.{same-words-equal}
-use Rattle.rules.specs.laws.Rows.{RowsAscend, r-none}
+use Rattle.rules.specs.laws.Rows.{RowsAscend, r-none, inserted-ascend, removed-ascend, removed-fewer}
 use Rattle.rules.specs.laws.Words.{Fits, fits-read}
 use Rattle.rules.specs.laws.Parts.{with-memo, with-boards, with-header, next-written}
 use Rattle.rules.specs.laws.Placed.{Placed}
@@ -66,6 +70,28 @@ sound-lent w e =
             boards = all-zip (h .ranges .boards) (h .rule8 .boards) (board-in-order s);
           };
     }
+
+-- boards told of a report that needs no seventeenth row, or of a withdrawal, and a closed one
+pub told-ascend : (r : Row) (b : Board) → RowsAscend (b .rows) → RowsAscend (told r b .rows)
+unfolding told
+told-ascend r b a =
+    either (λ (c : Board). RowsAscend (c .rows)) (is-open b)
+    (λ o. either RowsAscend (meets (r .bounds) (b .window)) (λ m. inserted-ascend r a) (λ m. removed-ascend (r .train) a))
+    (λ o. a)
+
+pub told-in-order : (r : Row) (b : Board) → BoardInOrder b → overfull r b ≡ false → BoardInOrder (told r b)
+unfolding overfull
+told-in-order r b o f = record { few = ltb-false row-limit _ f; ascend = told-ascend r b (o .ascend) }
+
+pub untold-in-order : (t : Train) (b : Board) → BoardInOrder b → BoardInOrder (untold t b)
+unfolding untold
+untold-in-order t b o =
+    either BoardInOrder (is-open b)
+    (λ e. record { few = omega (arith, removed-fewer t (b .rows), o .few); ascend = removed-ascend t (o .ascend) })
+    (λ e. o)
+
+pub closed-in-order : BoardInOrder closed
+closed-in-order = record { few = omega arith; ascend = r-none }
 
 -- ---- words and back
 pub became : {s : Store} {w : List ℕ} → InOrder s → w ≡ words s → Became s w
