@@ -12,19 +12,23 @@ use lib.ListN.{length, getD, set, take}
 use borrow.Author.Tests.{lt-leb, le-ltb}
 use Rattle.rules.specs.declared.Train.{Train}
 use Rattle.rules.specs.declared.Stamp.{Stamp}
+use Rattle.rules.specs.declared.Box.{Box}
+use Rattle.rules.specs.declared.Window.{Window}
 use Rattle.rules.specs.declared.Entry.{Entry}
+use Rattle.rules.specs.declared.Row.{Row}
 use Rattle.rules.specs.declared.Step.{Step}
 use Rattle.rules.specs.declared.LookUp.{LookUp}
 use Rattle.rules.specs.declared.LookUp.the-variants.{Absent, Found as At}
 use Rattle.rules.specs.Lists.{same-words, some-one}
 use Rattle.rules.specs.Store.{Board, Store, limit, stamp, closed, words, store-of}
 use Rattle.rules.specs.Memo.{look-up, is-absent, noted, inspected}
+use Rattle.rules.specs.Live.{rows-in}
 use Rattle.rules.specs.Tree.{tree-of, put-at}
 use Rattle.rules.specs.Cleaning.{smallest-mark}
 use Rattle.rules.specs.Boards.{is-open, lists, told, untold, overfull, touched, opened}
 use Rattle.rules.specs.Sound.{sound, sound-words}
 use Rattle.rules.specs.Steps.{its-train, reported-box, reported-row, its-window, report, withdraw, inspect, open-board, close-board}
-use Rattle.rules.specs.Views.{sound-holds}
+use Rattle.rules.specs.Views.{ProperBox, sound-holds}
 use Rattle.rules.specs.laws.Tests.{and-right}
 use Rattle.rules.specs.laws.All.{All, all-map}
 use Rattle.rules.specs.laws.Counts.{count-left}
@@ -89,43 +93,53 @@ counted-then : {s : Store} {w w′ : List ℕ} {n : ℕ} (f : Store → Store) (
 counted-then f g a b = rw (a .stored) at b
 
 -- ---- a report
-module _ (w : List ℕ) (x : Step) (e : sound-words w ≡ true) (allowed : AcceptedReport (store-of w) x) (w₁ : List ℕ) (r : Stamp) (h : StampTaken (store-of w) (its-train x) w₁ r) where
+module _ (w : List ℕ) (x : Step) (e : sound-words w ≡ true) (allowed : AcceptedReport (store-of w) x) (b : Box) (its : b ≡ reported-box x) (w₁ : List ℕ) (r : Stamp) (h : StampTaken (store-of w) (its-train x) w₁ r) where
   abbrev s : Store
   s = store-of w
 
-  pub put-levels : (1 ≤ store-of w₁ .levels) × (store-of w₁ .levels < limit)
-  put-levels =
-      let S = sound-holds s (sound-lent-store w e) in
-      let l : store-of w₁ .levels ≡ s .levels = ap (λ u. u .levels) (h .became .stored) in
-      (omega (arith, S .ranges .header .levels-least), omega (arith, S .ranges .header .levels-most))
+  same-levels : store-of w₁ .levels ≡ s .levels
+  same-levels = ap (λ u. u .levels) (h .became .stored)
 
-  abbrev entry : Stamp → Entry
-  entry z = record { bounds = reported-box x; key = x .a; stamp = z }
+  pub levels-least : 1 ≤ store-of w₁ .levels
+  levels-least = omega (arith, same-levels, sound-holds s (sound-lent-store w e) .ranges .header .levels-least)
 
-  module _ (w₂ : List ℕ) (g : Grown (length (store-of w₁ .pages)) w₁ (put-at 1 (entry r) (tree-of (store-of w₁))) w₂) where
+  pub levels-most : store-of w₁ .levels < limit
+  levels-most = omega (arith, same-levels, sound-holds s (sound-lent-store w e) .ranges .header .levels-most)
+
+  pub put-proper : ProperBox b
+  put-proper = rw its (allowed .proper)
+
+  -- the entry that is put in, and the row that the boards are told of
+  abbrev entry : Box → Stamp → Entry
+  entry c z = record { bounds = c; key = x .a; stamp = z }
+
+  abbrev row : Box → Row
+  row c = record { train = its-train x; bounds = c }
+
+  module _ (w₂ : List ℕ) (g : Grown (length (store-of w₁ .pages)) w₁ (put-at 1 (entry b r) (tree-of (store-of w₁))) w₂) where
     abbrev taken : Store
     taken = stamped s (its-train x) (tree-of s) (s .boards)
 
-    put-became : Became (with-tree taken (put-at 1 (entry (s .next)) (tree-of s))) w₂
+    put-became : Became (with-tree taken (put-at 1 (entry (reported-box x) (s .next)) (tree-of s))) w₂
     put-became =
-        subst (λ z. Became (with-tree taken (put-at 1 (entry z) (tree-of s))) w₂) (h .taken)
-        (became-then (λ u. with-tree u (put-at 1 (entry r) (tree-of u))) (h .became) (grown-became (became-lent (h .became)) g))
+        subst (λ z. Became (with-tree taken (put-at 1 (entry (reported-box x) z) (tree-of s))) w₂) (h .taken)
+        (became-then (λ u. with-tree u (put-at 1 (entry (reported-box x) r) (tree-of u))) (h .became) (grown-became (became-lent (h .became)) (rw its at g)))
 
     pub put-lent : Lent w₂
     put-lent = became-lent put-became
 
-    pub none-overfull : some-one (overfull (reported-row x)) (store-of w₂ .boards) ≡ false
+    pub none-overfull : some-one (overfull (row b)) (store-of w₂ .boards) ≡ false
     unfolding overfull
-    none-overfull = rw (ap (λ u. u .boards) (put-became .stored)) (no-one _ (all-map (allowed .rows-room) λ b k. le-ltb _ _ k))
+    none-overfull = rw (its, ap (λ u. u .boards) (put-became .stored)) (no-one _ (all-map (allowed .rows-room) λ b k. le-ltb _ _ k))
 
-    module _ (w₃ : List ℕ) (n : ℕ) (c : Counted (with-boards (store-of w₂) (map (told (reported-row x)) (store-of w₂ .boards))) (touched (its-train x) (store-of w₂ .boards) (map (told (reported-row x)) (store-of w₂ .boards))) w₃ n) where
+    module _ (w₃ : List ℕ) (n : ℕ) (c : Counted (with-boards (store-of w₂) (map (told (row b)) (store-of w₂ .boards))) (touched (its-train x) (store-of w₂ .boards) (map (told (row b)) (store-of w₂ .boards))) w₃ n) where
       pub report-fits : Number w32 n
-      report-fits = few-boards (its-train x) (told (reported-row x)) (store-of w₂ .boards) (put-lent .order .sizes .boards-most) n (c .counted)
+      report-fits = few-boards (its-train x) (told (row b)) (store-of w₂ .boards) (put-lent .order .sizes .boards-most) n (c .counted)
 
       pub report-effect : Effected (report s x) w₃ n
       unfolding report
       report-effect =
-          counted-then (λ u. with-boards u (map (told (reported-row x)) (u .boards))) (λ u. touched (its-train x) (u .boards) (map (told (reported-row x)) (u .boards))) put-became c
+          counted-then (λ u. with-boards u (map (told (reported-row x)) (u .boards))) (λ u. touched (its-train x) (u .boards) (map (told (reported-row x)) (u .boards))) put-became (rw its at c)
 
 -- ---- a withdrawal
 module _ (w : List ℕ) (x : Step) (w₁ : List ℕ) (r : Stamp) (h : StampTaken (store-of w) (its-train x) w₁ r)
@@ -153,11 +167,14 @@ pub close-effect : (w : List ℕ) (x : Step) (w′ : List ℕ) → Became (with-
 unfolding close-board
 close-effect w x w′ b = record { became = b; counted = refl }
 
-module _ (w : List ℕ) (x : Step) (keys work : List ℕ) (n : ℕ) (keys′ work′ : List ℕ) (f : Found (store-of w) (its-window x) keys work n keys′ work′) where
-  pub rows-listed : RowsAscend (map (row-of-key (store-of w .pages)) (take n keys′))
-  rows-listed = rw (f .rows) (rows-ascend (store-of w) (its-window x))
+module _ (w : List ℕ) (x : Step) (z : Window) (its : z ≡ its-window x) (keys work : List ℕ) (n : ℕ) (keys′ work′ : List ℕ) (f : Found (store-of w) z keys work n keys′ work′) where
+  pub rows-many : n ≡ length (rows-in (store-of w) (its-window x))
+  rows-many = rw its at (f .many)
 
-  pub open-effect : (w′ : List ℕ) → Became (with-boards (store-of w) (set (store-of w .boards) (x .a) (opened (its-window x) (map (row-of-key (store-of w .pages)) (take n keys′))))) w′
+  pub rows-listed : RowsAscend (map (row-of-key (store-of w .pages)) (take n keys′))
+  rows-listed = rw (f .rows) (rows-ascend (store-of w) z)
+
+  pub open-effect : (w′ : List ℕ) → Became (with-boards (store-of w) (set (store-of w .boards) (x .a) (opened z (map (row-of-key (store-of w .pages)) (take n keys′))))) w′
       → Effected (open-board (store-of w) x) w′ n
   unfolding open-board
-  open-effect w′ b = record { became = rw (f .rows) at b; counted = f .many }
+  open-effect w′ b = record { became = rw (f .rows, its) at b; counted = rows-many }

@@ -2,7 +2,7 @@
 use Prim.Native.Nat.{ℕ, _*_}
 use mathlib.Core.Path.{_≡_}
 use mathlib.Core.Bool.{Bool, true, false, not, _&&_, or-false}
-use mathlib.Core.List.{List, [], _∷_}
+use mathlib.Core.List.{List, [], _∷_, _++_}
 use lib.Dec.{eqb, leb, ltb}
 use lib.ListN.{length}
 use Rattle.rules.specs.declared.Step.{Step}
@@ -32,13 +32,13 @@ report-tests s x =
 abbrev pub withdraw-tests : Store → Step → List Refusal
 withdraw-tests s x = (7 when eqb (its-train x .0) 0) ∷ (11 when eqb (s .next .0) limit) ∷ (13 when no-slot-left s x) ∷ []
 
-abbrev pub open-tests : Store → Step → List Refusal
-open-tests s x =
-    (8 when not (proper-window (its-window x)))
-    ∷ (9 when leb (length (s .boards)) (x .a))
-    ∷ (10 when is-open (board-at s (x .a)))
-    ∷ (14 when ltb row-limit (length (rows-in s (its-window x))))
-    ∷ []
+-- 14 needs the rows of the window, and is tried after the others
+abbrev pub opening-tests : Store → Step → List Refusal
+opening-tests s x =
+    (8 when not (proper-window (its-window x))) ∷ (9 when leb (length (s .boards)) (x .a)) ∷ (10 when is-open (board-at s (x .a))) ∷ []
+
+abbrev pub rows-test : Store → Step → List Refusal
+rows-test s x = (14 when ltb row-limit (length (rows-in s (its-window x)))) ∷ []
 
 abbrev pub close-tests : Store → Step → List Refusal
 close-tests s x = (9 when leb (length (s .boards)) (x .a)) ∷ (10 when not (is-open (board-at s (x .a)))) ∷ []
@@ -58,7 +58,7 @@ module _ (s : Store) (x : Step) where
     unfolding refusal first-met
     withdraw-refusal k = rw (formed, k)
 
-    pub open-refusal : x .kind ≡ 5 → refusal s x ≡ first-met (open-tests s x)
+    pub open-refusal : x .kind ≡ 5 → refusal s x ≡ first-met (opening-tests s x ++ rows-test s x)
     unfolding refusal first-met
     open-refusal k = rw (formed, k, or-false (is-open (board-at s (x .a))))
 
