@@ -1,83 +1,74 @@
+-- `steps::open` meets its contract. Assumes nothing.
 use borrow.Author.Needs.{needs}
+use Rattle.query.specs.Keys.{sound-searchable}
+use Rattle.parts.specs.Laws.{sound-lent}
+use Rattle.steps.specs.Stepping.{given-sound}
+use Rattle.steps.proofs.Effects.{rows-many, rows-listed, open-effect}
+use Rattle.steps.proofs.Ways.{open-refused, open-overfull, open-inside, open-done}
 use Rattle.steps.proofs.open.Statement.{statement}
 use Rattle.steps.proofs.open.Tie as tie
-use Rattle.steps.proofs.open.Reads as reads
-use Rattle.steps.proofs.open.Lts as lts
-use Rattle.parts.proofs.open_board.Reads as open-board-reads
-use Rattle.query.proofs.find.Reads as find-reads
-use Rattle.steps.proofs.open_number.Reads as open-number-reads
-use Rattle.steps.proofs.refused.Reads as refused-reads
-use Rattle.steps.proofs.window_of.Reads as window-of-reads
 
-open-number-requires : tie.Need-open-number-requires
-open-number-requires c κs = ?
-
-refused-requires : tie.Need-refused-requires
-refused-requires c κs = search needs
-
-same-length : tie.Need-same-length
-same-length c = search needs
-
-returns : tie.Need-returns
-returns c = ?
-
-window-of-requires : tie.Need-window-of-requires
-window-of-requires c κs = search needs
-
-slice-aggregate-find : tie.Need-slice-aggregate-find
-slice-aggregate-find c = search needs
-
-slice-aggregate-find-2 : tie.Need-slice-aggregate-find-2
-slice-aggregate-find-2 c = search needs
-
-find-requires : tie.Need-find-requires
-find-requires c κs = ?
-
-refused-requires-2 : tie.Need-refused-requires-2
-refused-requires-2 c κs = search needs
-
-same-length-2 : tie.Need-same-length-2
-same-length-2 c = search needs
-
+-- a seventeenth row
 returns-2 : tie.Need-returns-2
-returns-2 c = ?
-
-cast-open-board : tie.Need-cast-open-board
-cast-open-board c = search needs
-
-slice-aggregate-open-board : tie.Need-slice-aggregate-open-board
-slice-aggregate-open-board c = search needs
+returns-2 c =
+    let found = c .before .before .before .before in
+    let asked = found .before .before .before .before in
+    let tried = asked .before in
+    let start = tried .before .before .before .before in
+    let x = start .args .x in
+    let given = start .pre in
+    let many = rows-many _ x _ (asked .window-of .ensures) _ _ _ _ _ (found .find .ensures) in
+    open-overfull _ _ _ (given .0) (given .1 .0) (given .1 .1) _ (tried .before .open-number .ensures) (tried .if1 .left) _ many (c .before .if2 .taken) _ (c .refused2 .ensures)
 
 open-board-requires : tie.Need-open-board-requires
-open-board-requires c κs = ?
-
-cast-t24 : tie.Need-cast-t24
-cast-t24 c = search needs
-
-same-length-3 : tie.Need-same-length-3
-same-length-3 c = search needs
+open-board-requires c κs =
+    let room = c .before .before .before in
+    let found = room .before .before .before in
+    let asked = found .before .before .before .before in
+    let tried = asked .before in
+    let start = tried .before .before .before .before in
+    let x = start .args .x in
+    let given = start .pre in
+    let sound = given-sound (given .0) in
+    let many = rows-many _ x _ (asked .window-of .ensures) _ _ _ _ _ (found .find .ensures) in
+    let inside = open-inside _ _ _ (given .0) (given .1 .0) (given .1 .1) _ (tried .before .open-number .ensures) (tried .if1 .left) _ many (room .if2 .left) in
+    (
+      (sound-lent _ sound, sound-searchable _ sound, inside),
+      (search needs, room .if2 .left, rows-listed _ x _ (asked .window-of .ensures) _ _ _ _ _ (found .find .ensures)),
+    )
 
 returns-3 : tie.Need-returns-3
-returns-3 c = ?
+returns-3 c =
+    let done = c .before .before in
+    let room = done .before .before .before .before in
+    let found = room .before .before .before in
+    let asked = found .before .before .before .before in
+    let tried = asked .before in
+    let start = tried .before .before .before .before in
+    let x = start .args .x in
+    let given = start .pre in
+    let many = rows-many _ x _ (asked .window-of .ensures) _ _ _ _ _ (found .find .ensures) in
+    let effect = open-effect _ x _ (asked .window-of .ensures) _ _ _ _ _ (found .find .ensures) _ (done .open-board .ensures) in
+    open-done _ _ _ (given .0) (given .1 .0) (given .1 .1) _ (tried .before .open-number .ensures) (tried .if1 .left) _ many (room .if2 .left) _ _ effect
 
 pub open-spec : {M : Type 1} → statement M
 open-spec =
     tie.close
     (tie.spec
-    open-number-requires
-    refused-requires
-    same-length
-    returns
-    window-of-requires
-    slice-aggregate-find
-    slice-aggregate-find-2
-    find-requires
-    refused-requires-2
-    same-length-2
+    (λ c κs. search (needs, given-sound))
+    (λ c κs. search needs)
+    (λ c. search needs)
+    (λ c. search (needs, open-refused))
+    (λ c κs. search needs)
+    (λ c. search needs)
+    (λ c. search needs)
+    (λ c κs. (search (needs, sound-searchable, given-sound), search needs))
+    (λ c κs. search needs)
+    (λ c. search needs)
     returns-2
-    cast-open-board
-    slice-aggregate-open-board
+    (λ c. search needs)
+    (λ c. search needs)
     open-board-requires
-    cast-t24
-    same-length-3
+    (λ c. search needs)
+    (λ c. search needs)
     returns-3)
