@@ -16,7 +16,7 @@ use Rattle.rules.specs.declared.Row.{Row}
 use Rattle.rules.specs.declared.Window.{Window}
 use Rattle.rules.specs.Lists.{some-one, count, one-if}
 use Rattle.rules.specs.Boxes.{meets}
-use Rattle.rules.specs.Store.{Board, Store, row-limit, closed, board-words, board-of, board-at, store-of}
+use Rattle.rules.specs.Store.{Board, row-limit, closed, board-words, board-of, board-at, store-of}
 use Rattle.rules.specs.Boards.{is-open, lists, told, untold, overfull, touched}
 use Rattle.rules.specs.laws.All.{All, all-map, all-zip, all-at, all-set}
 use Rattle.rules.specs.laws.Boards.{untold-closed, touched-told}
@@ -24,11 +24,9 @@ use Rattle.rules.specs.laws.Counts.{count-append}
 use Rattle.rules.specs.laws.Rows.{RowsAscend, no-one-all, told-lists, untold-lists, untold-same}
 use Rattle.rules.specs.laws.Parts.{with-boards}
 use Rattle.rules.specs.laws.Placed.{board-back}
-use Rattle.rules.specs.laws.Words.{board-read}
 use Rattle.board.specs.Rows.{BoardWords}
-use Rattle.board.specs.Laws.{board-is}
-use Rattle.parts.specs.InOrder.{BoardInOrder, InOrder, Lent, Became, Counted}
-use Rattle.parts.specs.Laws.{lent-placed, lent-became, became, became-lent, became-then, order-boards, told-ascend, told-in-order, untold-in-order}
+use Rattle.parts.specs.InOrder.{BoardInOrder, Lent, Became, Counted}
+use Rattle.parts.specs.Laws.{lent-placed, lent-became, became, became-lent, became-then, order-boards, told-in-order, untold-in-order}
 use Rattle.parts.specs.BoardAt.{BoardAt}
 use Rattle.parts.specs.Boards.{touch, Told}
 
