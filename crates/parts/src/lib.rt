@@ -201,15 +201,15 @@ pub fn untell_all(store: &mut [u32], t: Train) -> usize
     ensures { λ x. ⌜ Counted (with-boards (store-of (now (store .entry))) (map (rules.untold t) (store-of (now (store .entry)) .boards))) (rules.touched t (store-of (now (store .entry)) .boards) (map (rules.untold t) (store-of (now (store .entry)) .boards))) (now (store .exit)) x ⌝ }
 {
     let n = header::boards(store);
-    let mut touched = 0;
+    let mut listed = 0;
     let mut i = 0;
     while i < n {
         let a = board_start(store, i);
         let e = a + 86;
-        touched += untell_one(&mut store[a..e], t);
+        listed += untell_one(&mut store[a..e], t);
         i += 1;
     }
-    touched
+    listed
 }
 
 pub fn close_board(store: &mut [u32], i: usize)
