@@ -22,16 +22,13 @@ use Rattle.rules.specs.Views.{MemoInRange}
 use Rattle.rules.specs.laws.All.{All}
 use Rattle.rules.specs.laws.Memo.{room-for, noted-in-range, lowered-in-range, inspected-in-range}
 use Rattle.rules.specs.laws.Parts.{with-memo}
-use Rattle.rules.specs.laws.Placed.{header-long, pages-most, slots-fit, memo-end-fits, memo-start-fits, memo-room as part-room, memo-part, memo-back}
+use Rattle.rules.specs.laws.Placed.{memo-part, memo-back}
 use Rattle.page.specs.declared.Page.{Page}
 use Rattle.page.specs.Struct.{contents}
 use Rattle.memo.specs.Slots.{room, slots-in, MemoWords, Inspected}
 use Rattle.memo.specs.Laws.{memo-room, memo-given, given-room, given-counts, so-looked-up, so-full, so-noted, so-lowered, so-inspected, so-freed}
 use Rattle.parts.specs.InOrder.{Lent, Became, Counted, freed}
 use Rattle.parts.specs.Laws.{lent-placed, lent-became, became, became-lent, became-then, order-memo}
-
--- that the counts are there, and that the memo's part is a part of the store
-pub ruleset memo-inside = (header-long, pages-most, slots-fit, memo-end-fits, memo-start-fits, part-room, lent-placed)
 
 -- a slot of the train, or one that is free
 abbrev pub SlotLeft : Store → Train → Type 0
