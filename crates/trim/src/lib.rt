@@ -142,10 +142,8 @@ fn add_orphans(waiting: Orphans, level: u32, g: Page) -> Orphans
     let mut i = 0;
     while i < n {
         let k = r.count;
-        r.list[k] = Orphan {
-            level,
-            place: page::place_at(g, i),
-        };
+        let place = page::place_at(g, i);
+        r.list[k] = Orphan { level, place };
         r.count += 1;
         i += 1;
     }
