@@ -1,5 +1,5 @@
 -- What a leaf keeps and what it loses: the places of a page that are latest or obsolete, place by place. Assumes nothing.
-use Prim.Native.Nat.{ℕ, _+_, _-_, _≤_, _<_}
+use Prim.Native.Nat.{ℕ, _+_, _*_, _-_, _≤_, _<_}
 use native.Mathlib.Omega.{arith}
 use mathlib.Core.Path.{_≡_, sym, _∙_, ap}
 use mathlib.Core.Bool.{Bool, true, false, not}
@@ -20,7 +20,7 @@ use Rattle.page.specs.Laws.{laid-added}
 use Rattle.memo.specs.Slots.{HoldsMemo, slots-in}
 use Rattle.memo.specs.Laws.{so-latest}
 use Rattle.tree.specs.Putting.{Laid}
-use Rattle.tree.specs.Laws.{laid-few, laid-count, laid-next, read-laid, read-contents, ready-count}
+use Rattle.tree.specs.Laws.{room, laid-few, laid-count, laid-next, read-laid, read-contents, ready-count}
 use Rattle.trim.specs.Trimming.{Readable, kept-by, page-kept}
 
 -- ---- one entry
@@ -34,8 +34,8 @@ module _ (w : List ℕ) (h : HoldsMemo w) (m : List ℕ) (part : m ≡ memo-word
   obsolete-kept f = rw f (ap not (so-latest _ _ (h .memo) m part e b answer))
 
 -- ---- the places of a page
-pub count-read : (w : List ℕ) (n : ℕ) → Readable (length (store-of w .pages)) w → n ≡ getD w 5 0 → Readable n w
-count-read w n h e = record { ready = ready-count w n (h .ready) e; slots-most = h .slots-most; memo = h .memo }
+pub pages-room : (w : List ℕ) → Readable (length (store-of w .pages)) w → (p : ℕ) → p ≡ getD w 5 0 → 16 + 52 * p ≤ length w
+pages-room w h p e = room p w (ready-count w p (h .ready) e)
 
 pub memo-held : (p : ℕ) (w : List ℕ) → Readable p w → HoldsMemo w
 memo-held p w h =
@@ -56,7 +56,7 @@ pub kept-start : (latest : Bool) (memo : List Slot) (g r : Page) → r ≡ laid-
 unfolding laid-page contents keep
 kept-start latest memo g r e = rw e
 
-module _ (p : ℕ) (w : List ℕ) (h : Readable p w) (at : PageNo) (g : Page) (read : g ≡ struct-at w p at) (latest : Bool) (i : ℕ) (r : Page)
+module _ (w : List ℕ) (h : Readable (length (store-of w .pages)) w) (p : ℕ) (counted : p ≡ getD w 5 0) (at : PageNo) (g : Page) (read : g ≡ struct-at w p at) (latest : Bool) (i : ℕ) (r : Page)
     (so-far : r ≡ laid-page (kept-first latest (store-of w .memo) g i)) where
   abbrev kept : Entry → Bool
   kept = kept-by latest (store-of w .memo)
@@ -65,7 +65,7 @@ module _ (p : ℕ) (w : List ℕ) (h : Readable p w) (at : PageNo) (g : Page) (r
   es = contents g .places
 
   laid : Laid g
-  laid = read-laid p w (h .ready) at g read
+  laid = read-laid p w (ready-count w p (h .ready) counted) at g read
 
   module _ (e : Entry) (b : Bool) (inside : i < g .count) (found : e ≡ getD (g .places) i no-place) (tested : b ≡ kept e) where
     pub kept-more : (y r′ : Page) → b ≡ true → y ≡ added r e → r′ ≡ y → r′ ≡ laid-page (kept-first latest (store-of w .memo) g (i + 1))
@@ -85,4 +85,4 @@ module _ (p : ℕ) (w : List ℕ) (h : Readable p w) (at : PageNo) (g : Page) (r
   kept-all k =
       so-far
       ∙ ap (λ z. laid-page (with-places (contents g) (keep kept z))) (take-all i es (omega (arith, laid-count g laid)))
-      ∙ ap (λ (c : Contents). laid-page (with-places c (keep kept (c .places)))) (read-contents p w (h .ready) at g read)
+      ∙ ap (λ (c : Contents). laid-page (with-places c (keep kept (c .places)))) (read-contents p w (ready-count w p (h .ready) counted) at g read)

@@ -28,6 +28,9 @@ use Rattle.trim.specs.declared.Orphans.{Orphans}
 use Rattle.trim.specs.Trimming.{Readable, page-kept, way, LeafBelow, held-by, wait-at, Added, Placeable, Waits, trimmed-in, so-far, child-freed, child-renewed, trimmed-place, TrimmedTo}
 
 -- ---- the leaf
+pub read-whole : (p : ℕ) (w : List ℕ) → Readable p w → Readable (length (store-of w .pages)) w
+read-whole p w h = rw (h .ready .counted) h
+
 pub leaf-trimmed : (p : ℕ) (w : List ℕ) → Readable p w → (at : PageNo) (mark : Stamp) (g : Page) (w′ : List ℕ) → g ≡ laid-page (page-kept true (store-of w) at)
     → w′ ≡ with-struct w p at (record { kind = 1; count = g .count; mark = mark; places = g .places }) → Wrote p w (trimmed-in w mark 0 at at .pages) w′
 unfolding trimmed-below laid-page

@@ -22,7 +22,7 @@ use Rattle.page.specs.Struct.{contents, laid-page, struct-at, with-struct}
 use Rattle.tree.specs.Putting.{Ready, Wrote, Grown}
 use Rattle.tree.specs.Laws.{laid-count, laid-at, room, levels-read, root-read, read-laid, read-contents, page-put, grown-from, grown-then, grown-tree, wrote-grown, grown-same}
 use Rattle.trim.specs.declared.Orphans.{Orphans}
-use Rattle.trim.specs.Trimming.{held-by, Waits, LeafBelow, trimmed-in, TrimmedTo, root-lowered, Cleanable}
+use Rattle.trim.specs.Trimming.{Readable, held-by, Waits, LeafBelow, trimmed-in, TrimmedTo, root-lowered, Cleanable}
 use Rattle.trim.proofs.Back.{back-levels}
 
 -- ---- a root with one child
@@ -77,6 +77,9 @@ module _ (p : ℕ) (w : List ℕ) (h : Ready p w) (root : PageNo) (at : root ≡
 module _ (w : List ℕ) (q : PageNo) (h : Cleanable q w) (p levels : ℕ) (counted : p ≡ getD w 5 0) (read : levels ≡ getD w 3 0) where
   all-pages : p ≡ length (store-of w .pages)
   all-pages = counted ∙ rw (h .readable .ready .written) at (pages-there (store-of w))
+
+  pub count-read : Readable p w
+  count-read = rw all-pages (h .readable)
 
   levels-are : levels ≡ store-of w .levels
   levels-are = read ∙ levels-read _ w (h .readable .ready)
