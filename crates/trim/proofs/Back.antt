@@ -55,7 +55,7 @@ grown-length p w h t w′ g =
     b ∙ rw (g .stored) (sym a)
 
 module _ (w : List ℕ) (o : Orphans) (long : length (o .list) ≡ 12) (most : store-of w .levels ≤ 5) (waits : Waits (store-of w .levels - 1) o) where
-  pub few-wait : o .count ≤ 12
+  few-wait : o .count ≤ 12
   few-wait = omega (arith, waits .few)
 
   held-length : length (held-by o) ≡ o .count
@@ -63,9 +63,6 @@ module _ (w : List ℕ) (o : Orphans) (long : length (o .list) ≡ 12) (most : s
   held-length = length-map (take (o .count) (o .list)) waiting ∙ length-take-le (o .count) (o .list) (omega (arith, few-wait))
 
   module _ (w′ : List ℕ) (i : ℕ) (so-far : PutBack w o w′ i) where
-    abbrev before : Tree
-    before = put-back (take i (held-by o)) (tree-of (store-of w))
-
     pub back-ready : Ready (length (store-of w′ .pages)) w′
     back-ready = rw (so-far .ready .counted) (so-far .ready)
 
