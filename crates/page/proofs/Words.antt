@@ -4,8 +4,8 @@ use native.Mathlib.Omega.{arith}
 use native.Mathlib.Nat.{add-sub-cancel-left}
 use native.Mathlib.Numerals.{add-one}
 use mathlib.Core.Path.{_≡_, refl, sym, ap, _∙_}
-use mathlib.Core.List.{List, [], _∷_, _++_, map, append-nil}
-use lib.ListN.{length, take, drop, getD, set, length-map, drop-of-length-le}
+use mathlib.Core.List.{List, [], _∷_, _++_, append-nil}
+use lib.ListN.{length, take, drop, getD, set, drop-of-length-le}
 use lib.Seq.{sets, sets-eq, take-at, take-all, take-suc, take-suc-set, drop-drop}
 use borrow.Author.Tests.{lt-ltb, le-ltb}
 use borrow.Rule.Slice.PartMut.{putMid}
@@ -20,10 +20,6 @@ use Rattle.rules.specs.laws.Splice.{lent, lent-back, splice-agrees}
 use Rattle.page.specs.declared.Page.{Page}
 use Rattle.page.specs.Struct.{struct-words, struct-of, laid-page, struct-at, with-struct}
 use Rattle.page.specs.Laws.{struct-places, struct-words-length}
-
--- what owning a struct tells of a field that is an array of structs stands at a `map` over its list
-pub length-mapped : (X Y : Type 0) (f : X → Y) (l : List X) (n : ℕ) → length (map f l) ≡ n → length l ≡ n
-length-mapped X Y f l n e = sym (length-map l f) ∙ e
 
 -- stores to each place in turn leave what was stored
 pub stored : (vs l : List ℕ) → length l ≡ length vs → sets l 0 vs ≡ vs

@@ -24,6 +24,11 @@ use Rattle.rules.specs.laws.Parts.{with-pages, page-words-there, page-written}
 use Rattle.page.specs.declared.Page.{Page}
 use Rattle.page.specs.Struct.{struct-words, struct-of, contents, eight, laid-page, page-start, struct-at, with-struct, with-place, added, removed, page-in}
 
+-- ---- arrays
+-- what owning a struct tells of a field that is an array of structs stands at a `map` over its list
+pub length-mapped : (X Y : Type 0) (f : X → Y) (l : List X) (n : ℕ) → length (map f l) ≡ n → length l ≡ n
+length-mapped X Y f l n e = sym (length-map l f) ∙ e
+
 -- ---- words
 pub struct-words-length : (g : Page) → length (g .places) ≡ 8 → length (struct-words g) ≡ 52
 unfolding struct-words

@@ -20,12 +20,12 @@ use Rattle.rules.specs.laws.All.{all-set}
 use Rattle.rules.specs.laws.Split.{choose-lt}
 use Rattle.page.specs.declared.Page.{Page}
 use Rattle.page.specs.Struct.{contents, laid-page, struct-at, with-struct, with-place}
-use Rattle.page.specs.Laws.{laid-contents, laid-place, laid-set}
+use Rattle.page.specs.Laws.{laid-contents, laid-set}
 use Rattle.split.specs.Split.{Chosen}
 use Rattle.tree.specs.declared.Written.{Written}
 use Rattle.tree.specs.declared.Written.the-variants.{Whole, Parted}
 use Rattle.tree.specs.Putting.{Ready, Laid, Wrote, Put, answer, result, settled-in, renewed-in, picked}
-use Rattle.tree.specs.Laws.{laid-few, laid-count, laid-length, laid-of, read-laid, read-contents, child-proper, page-put, wrote-then, wrote-pages}
+use Rattle.tree.specs.Laws.{laid-few, laid-count, laid-at, laid-length, laid-of, read-laid, read-contents, child-proper, page-put, wrote-then, wrote-pages}
 
 -- ---- the place picked
 -- it is read and set as the one that the rules choose
@@ -146,8 +146,7 @@ module _ (p : ℕ) (w : List ℕ) (h : Ready p w) (at : PageNo) (e : Entry) (g :
     chosen =
         let l = read-laid p w h at g read in
         found
-        ∙ ap (λ g. getD (g .places) i no-place) (l .laid)
-        ∙ laid-place (contents g) (laid-few g l) i
+        ∙ laid-at g l i
         ∙ ap (λ i. getD (contents g .places) i no-place) best
         ∙ picked-place (e .bounds) (contents g .places)
 

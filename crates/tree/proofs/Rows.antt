@@ -2,7 +2,7 @@
 use Prim.Native.Nat.{ℕ, suc, _+_, _-_, _≤_, _<_}
 use native.Mathlib.Omega.{arith}
 use native.Mathlib.Numerals.{add-one}
-use mathlib.Core.Path.{_≡_, sym, ap, _∙_}
+use mathlib.Core.Path.{_≡_, ap, _∙_}
 use mathlib.Core.List.{List, [], _∷_, _++_, map, append-assoc, map-append}
 use lib.ListN.{length, take, drop, getD, set, replicate, length-map}
 use lib.Seq.{slice, slice-empty, length-slice, take-all, take-suc, drop-cons, set-at, drop-append-le, length-take-le}
@@ -13,10 +13,6 @@ use Rattle.page.specs.declared.Page.{Page}
 use Rattle.page.specs.Struct.{laid-page, added}
 use Rattle.page.specs.Laws.{laid-added}
 use Rattle.tree.specs.Putting.{page-with}
-
--- what owning a struct tells of a field that is an array of structs stands at a `map` over its list
-pub length-mapped : (X Y : Type 0) (f : X → Y) (l : List X) (n : ℕ) → length (map f l) ≡ n → length l ≡ n
-length-mapped X Y f l n e = sym (length-map l f) ∙ e
 
 -- ---- the nine
 module _ (es : List Entry) (rows₀ rows : List (List ℕ)) (i : ℕ) (full : length es ≡ 8) (so-far : rows ≡ map place-words (take i es) ++ drop i rows₀) where

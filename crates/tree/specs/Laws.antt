@@ -1,11 +1,14 @@
 -- Laws of putting in: what is read from words that are ready, and what writing pages leaves.
-use Prim.Native.Nat.{ℕ, _+_, _*_, _≤_}
+use Prim.Native.Nat.{ℕ, _+_, _*_, _≤_, _<_}
 use native.Mathlib.Omega.{arith}
+use native.Mathlib.Numerals.{add-one}
 use mathlib.Core.Path.{_≡_, refl, sym, ap, _∙_}
-use mathlib.Core.List.{List}
-use lib.ListN.{length, getD, set, drop, length-set, length-take}
+use mathlib.Core.List.{List, [], _∷_, _++_}
+use lib.ListN.{length, getD, set, take, drop, length-set, length-take}
+use lib.Seq.{take-suc}
 use Rattle.rules.specs.declared.PageNo.{PageNo}
-use Rattle.rules.specs.Store.{Page as Contents, Store, page-no, free-page, page-at, put-page, pages-of, store-length, words, store-of}
+use Rattle.rules.specs.declared.Entry.{Entry}
+use Rattle.rules.specs.Store.{Page as Contents, Store, page-no, free-page, no-place, page-at, put-page, pages-of, store-length, words, store-of}
 use Rattle.rules.specs.Tree.{Tree, tree-of, its-box, lowest-free, child-place, cover-page}
 use Rattle.rules.specs.Views.{ProperBox}
 use Rattle.rules.specs.laws.All.{All, none, all-set, all-anywhere}
@@ -15,7 +18,7 @@ use Rattle.rules.specs.laws.Parts.{with-pages, with-header, fits-page, root-wri
 use Rattle.rules.specs.laws.Header.{root-there, levels-there, pages-there}
 use Rattle.page.specs.declared.Page.{Page}
 use Rattle.page.specs.Struct.{contents, laid-page, struct-at, with-struct}
-use Rattle.page.specs.Laws.{laid-contents, laid-places, pages-length, struct-there, struct-written}
+use Rattle.page.specs.Laws.{laid-contents, laid-places, laid-place, pages-length, struct-there, struct-written}
 use Rattle.tree.specs.Putting.{ProperPlaces, Ready, Laid, Wrote, Grown, with-tree}
 
 -- ---- words and back
@@ -37,6 +40,13 @@ module _ (g : Page) (l : Laid g) where
 
   pub laid-length : length (g .places) ≡ 8
   laid-length = ap (λ g. length (g .places)) (l .laid) ∙ laid-places (contents g) laid-few
+
+  -- its places, one by one
+  pub laid-at : (i : ℕ) → getD (g .places) i no-place ≡ getD (contents g .places) i no-place
+  laid-at i = ap (λ g. getD (g .places) i no-place) (l .laid) ∙ laid-place (contents g) laid-few i
+
+  pub laid-next : (i : ℕ) (e : Entry) → i < g .count → e ≡ getD (g .places) i no-place → take (i + 1) (contents g .places) ≡ take i (contents g .places) ++ (e ∷ [])
+  laid-next i e h q = rw (add-one i, q ∙ laid-at i) (take-suc (contents g .places) i no-place (omega (arith, laid-count)))
 
 -- the struct of contents is laid out
 pub laid-of : (g : Contents) → length (g .places) ≤ 8 → ProperPlaces (g .places) → Laid (laid-page g)

@@ -3,4 +3,5 @@ pub mod Keeping
 pub mod Ways
 pub mod Waiting
 pub mod Thin
+pub mod Back
 pub mod Whole

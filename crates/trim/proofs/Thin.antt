@@ -1,7 +1,7 @@
 -- Taking out what is thin: the leaf, a page once its child has been trimmed, and the way down to the leaf. Assumes nothing.
 use Prim.Native.Nat.{ℕ, zero, suc, _+_, _*_, _-_, _≤_, _<_}
 use native.Mathlib.Omega.{arith}
-use mathlib.Core.Path.{_≡_, refl, sym, subst, _∙_, ap, ap₂}
+use mathlib.Core.Path.{_≡_, refl, subst, _∙_, ap, ap₂}
 use mathlib.Core.Bool.{true}
 use mathlib.Core.List.{List, [], _∷_, _++_}
 use lib.Dec.{ltb}
@@ -14,20 +14,23 @@ use Rattle.rules.specs.Lists.{keep, without}
 use Rattle.rules.specs.Store.{Page as Contents, free-page, no-place, child-of, page-at, put-page, store-of}
 use Rattle.rules.specs.Memo.{is-latest}
 use Rattle.rules.specs.Tree.{with-places, child-place}
-use Rattle.rules.specs.Cleaning.{Orphan as Waiting, Trimmed, path-to, trimmed-below}
+use Rattle.rules.specs.Cleaning.{path-to, trimmed-below}
 use Rattle.rules.specs.laws.Tests.{either}
 use Rattle.rules.specs.laws.All.{All, none, more, head-of, tail-of, all-map, all-append, all-mapped, all-kept, all-set}
 use Rattle.rules.specs.laws.Kept.{keep-fewer}
 use Rattle.rules.specs.laws.Places.{without-length}
 use Rattle.page.specs.declared.Page.{Page}
 use Rattle.page.specs.Struct.{contents, laid-page, struct-at, with-struct, with-place, removed}
-use Rattle.page.specs.Laws.{laid-place, laid-set, laid-removed}
+use Rattle.page.specs.Laws.{laid-set, laid-removed}
 use Rattle.tree.specs.Putting.{ProperPlaces, Ready, Laid, Wrote}
-use Rattle.tree.specs.Laws.{laid-few, laid-count, room, page-few, page-proper, child-proper, read-laid, read-contents, page-put, wrote-then, wrote-pages}
+use Rattle.tree.specs.Laws.{laid-few, laid-count, laid-at, room, page-few, page-proper, child-proper, read-laid, read-contents, page-put, wrote-then, wrote-pages}
 use Rattle.trim.specs.declared.Orphans.{Orphans}
 use Rattle.trim.specs.Trimming.{Readable, page-kept, way, LeafBelow, held-by, wait-at, Added, Placeable, Waits, trimmed-in, so-far, child-freed, child-renewed, trimmed-place, TrimmedTo}
 
 -- ---- the leaf
+pub read-whole : (p : ℕ) (w : List ℕ) → Readable p w → Readable (length (store-of w .pages)) w
+read-whole p w h = rw (h .ready .counted) h
+
 pub leaf-trimmed : (p : ℕ) (w : List ℕ) → Readable p w → (at : PageNo) (mark : Stamp) (g : Page) (w′ : List ℕ) → g ≡ laid-page (page-kept true (store-of w) at)
     → w′ ≡ with-struct w p at (record { kind = 1; count = g .count; mark = mark; places = g .places }) → Wrote p w (trimmed-in w mark 0 at at .pages) w′
 unfolding trimmed-below laid-page
@@ -143,8 +146,7 @@ module _ (p : ℕ) (w : List ℕ) (h : Readable p w) (depth : ℕ) (at q : PageN
     there : x ≡ getD (page-at ps at .places) i no-place
     there =
         found
-        ∙ ap (λ g. getD (g .places) i no-place) (laid .laid)
-        ∙ laid-place (contents g) (laid-few g laid) i
+        ∙ laid-at g laid i
         ∙ ap (λ (g : Contents). getD (g .places) i no-place) (read-contents p w (h .ready) at g read)
 
     pub leaf-further : LeafBelow w depth at q → LeafBelow w (depth - 1) (child-of x) q

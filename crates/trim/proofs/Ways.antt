@@ -15,9 +15,8 @@ use Rattle.rules.specs.Cleaning.{reached-under, among}
 use Rattle.rules.specs.laws.Places.{first-here, first-later, first-nowhere}
 use Rattle.page.specs.declared.Page.{Page}
 use Rattle.page.specs.Struct.{contents, struct-at}
-use Rattle.page.specs.Laws.{laid-place}
 use Rattle.tree.specs.Putting.{Ready, Laid}
-use Rattle.tree.specs.Laws.{laid-few, laid-count, read-laid, read-contents}
+use Rattle.tree.specs.Laws.{laid-count, laid-at, read-laid, read-contents}
 use Rattle.trim.specs.Trimming.{leads-to, way}
 
 -- ---- one of several pages
@@ -83,11 +82,8 @@ further-start w level q g = omega arith
 
 module _ (w : List ℕ) (level : ℕ) (q : PageNo) (g : Page) (l : Laid g) (i : ℕ) (so-far : Further w level q g i) where
   module _ (e : Entry) (b : Bool) (inside : i < g .count) (found : e ≡ getD (g .places) i no-place) (answer : b ≡ leads-to (store-of w .pages) level q (child-of e)) where
-    there : e ≡ getD (contents g .places) i no-place
-    there = found ∙ ap (λ g. getD (g .places) i no-place) (l .laid) ∙ laid-place (contents g) (laid-few g l) i
-
     tested : leads-to (store-of w .pages) level q (child-of (getD (contents g .places) i no-place)) ≡ b
-    tested = rw (← there) (sym answer)
+    tested = rw (← laid-at g l i, ← found) (sym answer)
 
     pub way-here : b ≡ true → i ≡ way (store-of w .pages) level q (contents g .places)
     way-here t = sym (first-here _ (contents g .places) i so-far no-place (omega (arith, laid-count g l)) (tested ∙ t))

@@ -44,11 +44,11 @@ fn is_kept(store: &[u32], e: Entry, latest: bool) -> bool
 }
 
 // Page `at` with only its latest places, or only its obsolete ones, in their order.
-fn kept_in(store: &[u32], p: usize, at: PageNo, latest: bool) -> Page
-    requires { ⌜ Readable p (now store) ⌝ }
+fn kept_in(store: &[u32], at: PageNo, latest: bool) -> Page
+    requires { ⌜ Readable (length (store-of (now store) .pages)) (now store) ⌝ }
     ensures { λ r. ⌜ r ≡ laid-page (page-kept latest (store-of (now (store .entry))) at) ⌝ }
 {
-    let g = page::page_at(store, p, at);
+    let g = page::page_at(store, header::pages(store), at);
     let n = g.count as usize;
     let mark = g.mark;
     let mut r = page::empty_page();
@@ -71,7 +71,7 @@ pub fn latest_in(store: &[u32], at: PageNo) -> Page
     requires { ⌜ Readable (length (store-of (now store) .pages)) (now store) ⌝ }
     ensures { λ r. ⌜ r ≡ laid-page (with-places (page-at (store-of (now (store .entry)) .pages) at) (keep (rules.is-latest (store-of (now (store .entry)) .memo)) (page-at (store-of (now (store .entry)) .pages) at .places))) ⌝ }
 {
-    kept_in(store, header::pages(store), at, true)
+    kept_in(store, at, true)
 }
 
 // Page `at` with only those that are obsolete.
@@ -79,7 +79,7 @@ pub fn obsolete_in(store: &[u32], at: PageNo) -> Page
     requires { ⌜ Readable (length (store-of (now store) .pages)) (now store) ⌝ }
     ensures { λ r. ⌜ r ≡ laid-page (with-places (page-at (store-of (now (store .entry)) .pages) at) (keep (rules.is-obsolete (store-of (now (store .entry)) .memo)) (page-at (store-of (now (store .entry)) .pages) at .places))) ⌝ }
 {
-    kept_in(store, header::pages(store), at, false)
+    kept_in(store, at, false)
 }
 
 // ---- the way to the leaf
@@ -142,10 +142,8 @@ fn add_orphans(waiting: Orphans, level: u32, g: Page) -> Orphans
     let mut i = 0;
     while i < n {
         let k = r.count;
-        r.list[k] = Orphan {
-            level,
-            place: page::place_at(g, i),
-        };
+        let place = page::place_at(g, i);
+        r.list[k] = Orphan { level, place };
         r.count += 1;
         i += 1;
     }
@@ -157,7 +155,7 @@ fn trim_leaf(store: &mut [u32], p: usize, at: PageNo, mark: Stamp)
     requires { ⌜ Readable p (now store) ⌝ }
     ensures { λ _. ⌜ Wrote p (now (store .entry)) (trimmed-in (now (store .entry)) mark 0 at at .pages) (now (store .exit)) ⌝ }
 {
-    let mut g = kept_in(store, p, at, true);
+    let mut g = latest_in(store, at);
     g.kind = 1;
     g.mark = mark;
     page::put_page(store, p, at, g);

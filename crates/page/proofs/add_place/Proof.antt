@@ -1,6 +1,6 @@
 -- `page::add_place` meets its contract. Assumes nothing.
 use borrow.Author.Needs.{needs}
-use Rattle.page.proofs.Words.{length-mapped}
+use Rattle.page.specs.Laws.{length-mapped}
 use Rattle.page.proofs.Places.{full-page, room-added}
 use Rattle.page.proofs.add_place.Statement.{statement}
 use Rattle.page.proofs.add_place.Tie as tie

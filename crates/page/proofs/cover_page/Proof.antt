@@ -7,7 +7,7 @@ use Rattle.rules.specs.Boxes.{cover-of}
 use Rattle.rules.specs.Tree.{its-box}
 use Rattle.rules.specs.laws.Places.{from-first}
 use Rattle.page.specs.Struct.{contents}
-use Rattle.page.proofs.Words.{length-mapped}
+use Rattle.page.specs.Laws.{length-mapped}
 use Rattle.page.proofs.Places.{none-covered, last-covered, one-more-covered}
 use Rattle.page.proofs.cover_page.Statement.{statement}
 use Rattle.page.proofs.cover_page.Tie as tie

@@ -1,6 +1,6 @@
 -- `page::place_at` meets its contract. Assumes nothing.
 use borrow.Author.Needs.{needs}
-use Rattle.page.proofs.Words.{length-mapped}
+use Rattle.page.specs.Laws.{length-mapped}
 use Rattle.page.proofs.Places.{past-place}
 use Rattle.page.proofs.place_at.Statement.{statement}
 use Rattle.page.proofs.place_at.Tie as tie

@@ -4,7 +4,7 @@ use Prim.Native.Nat.{_≤_, _-_}
 use lib.ListN.{length}
 use borrow.Author.Needs.{needs}
 use Rattle.rules.specs.Lists.{without}
-use Rattle.page.proofs.Words.{length-mapped}
+use Rattle.page.specs.Laws.{length-mapped}
 use Rattle.page.proofs.Places.{gap-turn, gap-closed}
 use Rattle.page.proofs.remove_place.Statement.{statement}
 use Rattle.page.proofs.remove_place.Tie as tie

@@ -1,6 +1,6 @@
 -- `page::set_place` meets its contract. Assumes nothing.
 use borrow.Author.Needs.{needs}
-use Rattle.page.proofs.Words.{length-mapped}
+use Rattle.page.specs.Laws.{length-mapped}
 use Rattle.page.proofs.Places.{past-set}
 use Rattle.page.specs.Struct.{with-place}
 use Rattle.page.proofs.set_place.Statement.{statement}

@@ -4,7 +4,8 @@ use Prim.Native.Nat.{_+_, _*_, _≤_, _-_}
 use lib.ListN.{length, take}
 use borrow.Author.Needs.{needs}
 use Rattle.page.specs.Struct.{struct-words}
-use Rattle.page.proofs.Words.{length-mapped, header-written, write-turn, all-written}
+use Rattle.page.specs.Laws.{length-mapped}
+use Rattle.page.proofs.Words.{header-written, write-turn, all-written}
 use Rattle.page.proofs.write_page.Statement.{statement}
 use Rattle.page.proofs.write_page.Tie as tie
 

@@ -5,7 +5,8 @@ use Prim.Native.Nat.{_≤_, _-_}
 use lib.ListN.{length, take, drop}
 use borrow.Author.Needs.{needs}
 use Rattle.rules.specs.Store.{place-words}
-use Rattle.tree.proofs.Rows.{length-mapped, nine-turn, nine-all}
+use Rattle.page.specs.Laws.{length-mapped}
+use Rattle.tree.proofs.Rows.{nine-turn, nine-all}
 use Rattle.tree.proofs.nine.Statement.{statement}
 use Rattle.tree.proofs.nine.Tie as tie
 

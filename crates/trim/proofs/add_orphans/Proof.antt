@@ -5,7 +5,8 @@ use lib.ListN.{length, take}
 use borrow.Author.Needs.{needs}
 use Rattle.page.specs.Struct.{contents}
 use Rattle.trim.specs.Trimming.{Added}
-use Rattle.trim.proofs.Waiting.{length-mapped, none-added, room-left, room-fits, more-fits, one-added, all-added}
+use Rattle.page.specs.Laws.{length-mapped}
+use Rattle.trim.proofs.Waiting.{none-added, room-left, room-fits, more-fits, one-added, all-added}
 use Rattle.trim.proofs.add_orphans.Statement.{statement}
 use Rattle.trim.proofs.add_orphans.Tie as tie
 

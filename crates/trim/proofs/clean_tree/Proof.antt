@@ -1,8 +1,7 @@
 -- `trim::clean_tree` meets its contract. Assumes nothing.
 use borrow.Author.Needs.{needs}
 use Rattle.tree.specs.Laws.{header-room}
-use Rattle.trim.proofs.Keeping.{count-read}
-use Rattle.trim.proofs.Whole.{depth-some, depth-few, leaf-there, trimmed-ready, trimmed-levels, trimmed-waits, back-count, back-some, all-clean}
+use Rattle.trim.proofs.Whole.{count-read, depth-some, depth-few, leaf-there, trimmed-ready, trimmed-levels, trimmed-waits, back-count, back-some, all-clean}
 use Rattle.trim.proofs.clean_tree.Statement.{statement}
 use Rattle.trim.proofs.clean_tree.Tie as tie
 
@@ -18,7 +17,7 @@ clean-tree-spec =
     let root = c .before .before .before in
     let pages = root .before .before in
     let start = pages .before .before .before in
-    (search (needs, count-read), search (needs, depth-few), leaf-there _ _ (start .pre) _ _ (pages .pages .ensures) (c .before .levels .ensures) _ (root .root .ensures)))
+    (count-read _ _ (start .pre) _ _ (pages .pages .ensures) (c .before .levels .ensures), search (needs, depth-few), leaf-there _ _ (start .pre) _ _ (pages .pages .ensures) (c .before .levels .ensures) _ (root .root .ensures)))
     (λ c κs. (search (needs, trimmed-ready), (search (needs, trimmed-levels), search (needs, trimmed-waits))))
     (λ c κs. (search (needs, back-count), search (needs, back-some)))
     (λ c. search needs)

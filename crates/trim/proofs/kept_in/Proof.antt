@@ -5,16 +5,16 @@ use Prim.Native.Nat.{_-_}
 use borrow.Author.Needs.{needs}
 use Rattle.rules.specs.Store.{store-of}
 use Rattle.page.specs.Struct.{laid-page}
-use Rattle.tree.specs.Laws.{room}
-use Rattle.trim.proofs.Keeping.{memo-held, kept-first, kept-start, kept-more, kept-same, kept-all}
+use Rattle.tree.specs.Laws.{header-room}
+use Rattle.trim.proofs.Keeping.{pages-room, memo-held, kept-first, kept-start, kept-more, kept-same, kept-all}
 use Rattle.trim.proofs.kept_in.Statement.{statement}
 use Rattle.trim.proofs.kept_in.Tie as tie
 
 abbrev Inv-loop : tie.InvT-loop
-Inv-loop store p latest g n r₀ i₀ r i = r ≡ laid-page (kept-first latest (store-of store .memo) g i)
+Inv-loop store latest g n r₀ i₀ r i = r ≡ laid-page (kept-first latest (store-of store .memo) g i)
 
 abbrev μ-loop : tie.MeasureT-loop
-μ-loop store p latest g n r₀ i₀ r i = n - i
+μ-loop store latest g n r₀ i₀ r i = n - i
 
 pub kept-in-spec : {M : Type 1} → statement M
 kept-in-spec =
@@ -22,7 +22,8 @@ kept-in-spec =
     (tie.spec
     Inv-loop
     μ-loop
-    (λ c κs. search (needs, room))
+    (λ c κs. search (needs, header-room))
+    (λ c κs. search (needs, pages-room))
     (λ c. search needs)
     (λ c κs. search needs)
     (λ c. search (needs, kept-start))

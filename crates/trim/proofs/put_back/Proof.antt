@@ -1,8 +1,8 @@
 -- `trim::put_back` meets its contract. The loop's invariant: the first i of those that wait have been put back. Assumes nothing.
 use Prim.Native.Nat.{_-_}
 use borrow.Author.Needs.{needs}
-use Rattle.trim.proofs.Whole.{PutBack, back-start, back-fits, back-inside, back-ready, back-proper, back-level, back-limit, back-turn, back-all, grown-length}
-use Rattle.trim.proofs.Waiting.{length-mapped}
+use Rattle.trim.proofs.Back.{PutBack, back-start, back-fits, back-inside, back-ready, back-proper, back-level, back-limit, back-turn, back-all, grown-length}
+use Rattle.page.specs.Laws.{length-mapped}
 use Rattle.trim.proofs.put_back.Statement.{statement}
 use Rattle.trim.proofs.put_back.Tie as tie
 
