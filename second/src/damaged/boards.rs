@@ -1,6 +1,7 @@
 //! Boards: their words, and rule 8.
 
 use super::bases::boards;
+use super::lent::Lent;
 use super::{unsound, Damage};
 
 /// The first coordinate past the map.
@@ -14,6 +15,7 @@ pub const DAMAGES: &[Damage] = &[
     unsound(&["closed, not zero"], boards, |s| s.set(s.row(1, 0), 1)),
     unsound(&["closed, not zero"], boards, |s| s.set(s.board(2) - 1, 1)),
     unsound(&["open word 2"], boards, |s| s.set(s.board(0) + 4, 2)),
+    unsound(&["open word 2"], boards, |s| s.set(s.board(1) + 4, 2)),
     unsound(&["row count 17"], boards, |s| s.set(s.board(0) + 5, 17)),
     unsound(&["row count"], boards, |s| s.set(s.board(0) + 5, u32::MAX)),
     unsound(&["unused row"], boards, |s| s.set(s.row(0, 2), 1)),
@@ -75,8 +77,19 @@ pub const DAMAGES: &[Damage] = &[
             &[200, 200, 200, 200, 1, 1, 7, 200, 200, 200, 200],
         );
     }),
+    // train 8 listed by a window that is past it on each side
+    unsound(&["rule 8"], boards, |s| list_8(s, [403, 400, 410, 402])),
+    unsound(&["rule 8"], boards, |s| list_8(s, [390, 400, 399, 402])),
+    unsound(&["rule 8"], boards, |s| list_8(s, [400, 403, 402, 410])),
+    unsound(&["rule 8"], boards, |s| list_8(s, [400, 390, 402, 399])),
     // an open board of a window with trains, without rows
     unsound(&["rule 8"], boards, |s| {
         s.put(s.board(1), &[30, 30, 30, 30, 1])
     }),
 ];
+
+/// Opens board 1 with the row of train 8 alone.
+pub fn list_8(store: &mut Lent, window: [u32; 4]) {
+    store.put(store.board(1), &window);
+    store.put(store.board(1) + 4, &[1, 1, 8, 400, 400, 402, 402]);
+}

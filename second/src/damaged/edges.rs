@@ -1,6 +1,7 @@
 //! Stores that are sound, many of them just so.
 
-use super::bases::{deep, fresh, leaf, split};
+use super::bases::{boards, deep, fresh, leaf, split};
+use super::boards::list_8;
 use super::lent::Lent;
 use super::{sound, Damage};
 
@@ -34,6 +35,11 @@ pub const EDGES: &[Damage] = &[
     sound(leaf, |s| s.put(s.slot(3), &[10, 1, 1])),
     // a root leaf with eight places
     sound(full_leaf, |_| ()),
+    // a window that touches train 8 on each side
+    sound(boards, |s| list_8(s, [402, 400, 410, 402])),
+    sound(boards, |s| list_8(s, [390, 400, 400, 402])),
+    sound(boards, |s| list_8(s, [400, 402, 402, 410])),
+    sound(boards, |s| list_8(s, [400, 390, 402, 400])),
     // a board of sixteen rows, and one of the whole map
     sound(full_board, |_| ()),
     sound(leaf, |s| {

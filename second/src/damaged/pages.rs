@@ -23,7 +23,7 @@ pub const DAMAGES: &[Damage] = &[
     unsound(&["no child"], split, |s| s.set(s.place(2, 1) + 5, 1)),
     unsound(&["no child"], split, |s| s.set(s.place(2, 1) + 4, 4)),
     unsound(&["no child"], split, |s| s.set(s.place(2, 1) + 4, u32::MAX)),
-    unsound(&["train 0"], leaf, |s| s.set(s.place(0, 3) + 4, 0)),
+    unsound(&["train 0"], leaf, |s| s.set(s.place(0, 4) + 4, 0)),
     unsound(&["box not proper"], leaf, |s| s.set(s.place(0, 3), 51)),
     unsound(&["box not proper"], leaf, |s| s.set(s.place(0, 3) + 1, 51)),
     unsound(&["box not proper"], leaf, |s| {
@@ -34,13 +34,13 @@ pub const DAMAGES: &[Damage] = &[
     }),
     // rule 1
     unsound(&["rule 1"], fresh, |s| s.free_page(0)),
-    unsound(&["rule 1"], leaf, |s| s.words[3] = 2),
+    unsound(&["rule 1"], fresh, |s| s.words[3] = 2),
     unsound(&["rule 1"], leaf, |s| s.words[3] = 5),
     unsound(&["rule 1"], deep, |s| s.words[3] = 2),
     unsound(&["rule 1"], deep, |s| s.words[3] = 4),
-    // leaf 0 twice under the root
+    // leaf 1 twice under the root
     unsound(&["reached twice"], split, |s| {
-        let place = std::array::from_fn(|word| s.words[s.place(2, 0) + word]);
+        let place = std::array::from_fn(|word| s.words[s.place(2, 1) + word]);
         s.add_place(2, place);
     }),
     // the root as its own child's child
