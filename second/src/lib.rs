@@ -7,6 +7,7 @@ pub mod boards;
 pub mod check;
 pub mod clean;
 pub mod counts;
+pub mod damaged;
 pub mod geometry;
 pub mod make;
 pub mod memo;

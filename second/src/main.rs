@@ -1,6 +1,7 @@
 //! The command line of the second program.
 
-use second::check::{judge, Checker};
+use second::check::{judge_lines, Checker};
+use second::damaged::damaged;
 use second::make::{make, Profile};
 use second::runs::runs;
 use second::text::{perform, Ending, NoWatcher, Transcript, MOST_BYTES};
@@ -20,6 +21,7 @@ second --make PROFILE SEED [STEPS]
                  boards, wild, text; SEED and STEPS are decimals
 second --judge   read stores from standard input, the words of one in a line,
                  and print for each the number that a call gives: 0 to 3
+second --damaged print stores in that form, each with one damage or sound
 second --runs    print the long runs that the definitions are held to
 second --help    print this text
 ";
@@ -31,6 +33,7 @@ enum Command {
     Check,
     Make(Profile, u64, usize),
     Judge,
+    Damaged,
     Runs,
     Help,
 }
@@ -42,6 +45,7 @@ impl Command {
             ["--words"] => Ok(Command::Words),
             ["--check"] => Ok(Command::Check),
             ["--judge"] => Ok(Command::Judge),
+            ["--damaged"] => Ok(Command::Damaged),
             ["--runs"] => Ok(Command::Runs),
             ["--help"] => Ok(Command::Help),
             ["--make", profile, seed] => Command::read_make(profile, seed, None),
@@ -87,7 +91,12 @@ fn obey(command: Command) -> io::Result<ExitCode> {
     match command {
         Command::Help => print(HELP.as_bytes())?,
         Command::Make(profile, seed, steps) => print(&make(profile, seed, steps))?,
-        Command::Judge => print(judged(&io::read_to_string(io::stdin().lock())?)?.as_bytes())?,
+        Command::Judge => {
+            let numbers = judge_lines(&io::read_to_string(io::stdin().lock())?);
+            let no_word = |error| io::Error::new(io::ErrorKind::InvalidData, error);
+            print(numbers.map_err(no_word)?.as_bytes())?;
+        }
+        Command::Damaged => print(damaged().as_bytes())?,
         Command::Runs => print(runs().as_bytes())?,
         Command::Run => {
             let transcript = perform(&read_input()?, &mut NoWatcher);
@@ -121,17 +130,6 @@ fn print(bytes: &[u8]) -> io::Result<()> {
     let mut out = io::stdout().lock();
     out.write_all(bytes)?;
     out.flush()
-}
-
-/// A line with the number of each store; what isn't a word of 32 bits is an error.
-fn judged(stores: &str) -> io::Result<String> {
-    let mut output = String::new();
-    for line in stores.lines() {
-        let words: Result<Vec<u32>, _> = line.split(' ').map(str::parse).collect();
-        let words = words.map_err(|error| io::Error::new(io::ErrorKind::InvalidData, error))?;
-        output.push_str(&format!("{}\n", judge(&words)));
-    }
-    Ok(output)
 }
 
 fn with_words(transcript: Transcript) -> String {

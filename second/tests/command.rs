@@ -68,6 +68,15 @@ fn help_and_made_inputs() {
 }
 
 #[test]
+fn each_store_of_a_line_is_judged() {
+    assert_eq!(printed(&["--judge"], b"\n1 2\n"), "2\n2\n");
+    assert_eq!(run(&["--judge"], b"1 x\n").status.code(), Some(2));
+    let stores = printed(&["--damaged"], b"");
+    let numbers = printed(&["--judge"], stores.as_bytes());
+    assert_eq!(numbers.lines().count(), stores.lines().count());
+}
+
+#[test]
 fn unknown_arguments_end_with_2() {
     let unknown: [&[&str]; 9] = [
         &["--what"],

@@ -11,7 +11,7 @@ mod reading;
 mod sound;
 mod upkeep;
 
-pub use judge::judge;
+pub use judge::{complaints, judge, judge_lines};
 pub use reading::Reading;
 pub use sound::test_sound;
 

@@ -3,16 +3,29 @@
 use super::reading::{demand, Held, Kind, PageWords, Reading, Sides};
 use std::collections::{BTreeMap, BTreeSet};
 
-/// Tests rules 1 to 8; complains with the rule's number.
+/// Complains with the number of the rule that is broken.
+type Test = fn(&Reading) -> Result<(), String>;
+
+const TESTS: [Test; 8] = [
+    test_reach,
+    test_place_counts,
+    test_inner_pages,
+    test_held,
+    test_latest,
+    test_slots,
+    test_marks,
+    test_boards,
+];
+
+/// Tests all rules, up to the first complaint.
 pub fn test_sound(reading: &Reading) -> Result<(), String> {
-    test_reach(reading)?;
-    test_place_counts(reading)?;
-    test_inner_pages(reading)?;
-    test_held(reading)?;
-    test_latest(reading)?;
-    test_slots(reading)?;
-    test_marks(reading)?;
-    test_boards(reading)
+    TESTS.iter().try_for_each(|test| test(reading))
+}
+
+/// The first complaint of each test.
+pub fn broken_rules(reading: &Reading) -> Vec<String> {
+    let verdicts = TESTS.iter().map(|test| test(reading));
+    verdicts.filter_map(Result::err).collect()
 }
 
 /// Rule 1: the pages reached level by level from the root are just those that aren't free.

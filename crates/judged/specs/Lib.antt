@@ -1,0 +1,2 @@
+-- What the program reads and writes.
+pub mod Text
