@@ -1,0 +1,43 @@
+// The calls for programs in C and Rust. A slice is passed as its first word's address and its number of words.
+ghost use mathlib.Core.Path.{_≡_};
+ghost use Rattle.rules.specs.Calls as calls;
+ghost use Rattle.index.specs.Answers.{number-of, count-of};
+
+#[no_mangle]
+pub extern "C" fn shunebokai_start(p: u32, k: u32, b: u32, store: &mut [u32]) -> u32
+    ensures { λ r. ⌜ calls.start p k b (now (store .entry)) ≡ record { number = r; store = now (store .exit) } ⌝ }
+{
+    index::start(p, k, b, store)
+}
+
+// The row count goes to `count`; refused, it is 0.
+#[no_mangle]
+pub extern "C" fn shunebokai_query(
+    store: &[u32],
+    x0: u32,
+    y0: u32,
+    x1: u32,
+    y1: u32,
+    rows: &mut [u32],
+    count: &mut usize,
+) -> u32
+    ensures { λ r. ⌜ calls.query-call (now (store .entry)) (record { x0 = x0; y0 = y0; x1 = x1; y1 = y1 }) (now (rows .entry)) ≡ record { number = r; count = now (count .exit); rows = now (rows .exit) } ⌝ }
+{
+    match index::query(store, x0, y0, x1, y1, rows) {
+        index::Answer::Listed(n) => {
+            *count = n;
+            0
+        }
+        index::Answer::Refused(number) => {
+            *count = 0;
+            number
+        }
+    }
+}
+
+#[no_mangle]
+pub extern "C" fn shunebokai_board_test(store: &[u32], i: u32) -> u32
+    ensures { λ r. ⌜ r ≡ calls.board-test (now (store .entry)) i ⌝ }
+{
+    index::board_test(store, i)
+}
