@@ -1,7 +1,7 @@
 -- What the words of a store that can be searched say of its boards, and where each board's own words stand in them.
 use Prim.Native.Nat.{ℕ, _+_, _-_, _*_, _≤_, _<_}
 use native.Mathlib.Omega.{arith}
-use mathlib.Core.Path.{_≡_, _∙_, ap₂}
+use mathlib.Core.Path.{_≡_, refl, sym, _∙_, ap, ap₂}
 use mathlib.Core.List.{List}
 use lib.ListN.{length, getD, take, drop}
 use mir.Syntax.{w64}
@@ -18,6 +18,7 @@ use Rattle.query.specs.Keys.{Searchable}
 
 -- the words of board i start at a; no store has more than 15,824 words
 pub record BoardAt (v : List ℕ) (i a : ℕ) : Type 0 where
+  pub starts : a ≡ boards-start (length (store-of v .pages)) (store-of v .slots) + 86 * i
   pub room : a + 86 ≤ length v
   pub low : a + 86 ≤ 15_824
   pub own : BoardWords (take (a + 86 - a) (drop a v))
@@ -80,8 +81,14 @@ module _ (v : List ℕ) (h : Searchable v) where
       pub board-starts : BoardAt v i (from + 86 * i)
       board-starts =
           record {
+            starts = ap (λ z. z + 86 * i) start;
             room = room;
             low = low;
             own = rw (lent, start) (rw (h .written) at (board-lent (store-of v) fits i inside));
             there = rw (lent, start) (rw (h .written) at (board-there (store-of v) fits i inside));
           }
+
+  -- and so every board, by the counts that are read
+  pub board-placed : (i : ℕ) → i < length (store-of v .boards) → BoardAt v i (boards-start (length (store-of v .pages)) (store-of v .slots) + 86 * i)
+  board-placed i inside =
+      board-starts (getD v 5 0) (getD v 7 0) (boards-start (length (store-of v .pages)) (store-of v .slots)) i refl refl (ap₂ boards-start (sym pages-count) (sym slots-count)) inside
