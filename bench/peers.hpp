@@ -3,6 +3,7 @@
 #include "workload.hpp"
 #include <boost/geometry.hpp>
 #include <boost/geometry/index/rtree.hpp>
+#include <boost/iterator/function_output_iterator.hpp>
 #include <cstdio>
 #include <cstdlib>
 #include <cstring>
@@ -22,7 +23,7 @@ inline void by_train(Row *from, Row *to) {
 template <class V> class Known {
 public:
     V &of(uint32_t train) {
-        uint32_t i = (train * 0x9E3779B1u) >> 22;
+        uint32_t i = (train * 0xC2B2AE35u) >> 22;
         while (trains_[i] != train && trains_[i] != 0)
             i = (i + 1) % kPlaces;
         trains_[i] = train;
@@ -35,33 +36,52 @@ private:
     V values_[kPlaces] = {};
 };
 
-// A flat array in the order of trains: a report finds its place by halving, a query looks at every row.
+// A flat array, a column for each side, in the order of trains: a report finds its place by halving, a query looks at every box.
 class Flat {
 public:
     static constexpr const char *kName = "flat array";
 
+    Flat() { std::fill(x0_, x0_ + kMost, INT32_MAX); }
+
     void put(const Row &r) {
-        Row *end = rows_ + count_;
-        Row *at = std::lower_bound(rows_, end, r.train, [](const Row &a, uint32_t train) { return a.train < train; });
-        if (at == end || at->train != r.train) {
-            std::memmove(at + 1, at, (end - at) * sizeof(Row));
+        size_t at = std::lower_bound(trains_, trains_ + count_, r.train) - trains_;
+        if (at == count_ || trains_[at] != r.train) {
+            open(trains_, at), open(x0_, at), open(y0_, at), open(x1_, at), open(y1_, at);
             count_++;
         }
-        *at = r;
+        trains_[at] = r.train;
+        x0_[at] = r.box.x0, y0_[at] = r.box.y0, x1_[at] = r.box.x1, y1_[at] = r.box.y1;
     }
 
     size_t query(const Box &w, Row *out) const {
+        bool hit[kMost];
+        const int32_t x0 = w.x0, y0 = w.y0, x1 = w.x1, y1 = w.y1;
+        for (size_t i = 0; i < kMost; i++)
+            hit[i] = (x0_[i] <= x1) & (x0 <= x1_[i]) & (y0_[i] <= y1) & (y0 <= y1_[i]);
         size_t n = 0;
-        for (size_t i = 0; i < count_; i++) {
-            out[n] = rows_[i];
-            n += meets(rows_[i].box, w);
+        for (size_t from = 0; from < count_; from += 8) {
+            uint64_t eight;
+            std::memcpy(&eight, hit + from, 8);
+            for (; eight != 0; eight &= eight - 1) {
+                size_t i = from + __builtin_ctzll(eight) / 8;
+                out[n++] = {trains_[i], {word(x0_[i]), word(y0_[i]), word(x1_[i]), word(y1_[i])}};
+            }
         }
         return n;
     }
 
 private:
+    static constexpr size_t kMost = 160;
+    static_assert(kTrains < kMost && kMost % 8 == 0);
+
+    static uint32_t word(int32_t x) { return static_cast<uint32_t>(x); }
+
+    template <class V> void open(V *column, size_t at) { std::memmove(column + at + 1, column + at, (count_ - at) * sizeof(V)); }
+
     size_t count_ = 0;
-    Row rows_[kTrains + 1];
+    uint32_t trains_[kMost] = {};
+    // signed, since those compare in fewer instructions; an unused place is past every window
+    int32_t x0_[kMost], y0_[kMost] = {}, x1_[kMost] = {}, y1_[kMost] = {};
 };
 
 // Boost's rtree with pages of at most eight, split by the quadratic rule. A report removes the old box, then puts the new one.
@@ -79,10 +99,11 @@ public:
 
     size_t query(const Box &w, Row *out) const {
         Row *to = out;
-        for (auto it = tree_.qbegin(boost::geometry::index::intersects(geometry(w))); it != tree_.qend(); ++it) {
-            const Point &low = it->first.min_corner(), &high = it->first.max_corner();
-            *to++ = {it->second, {low.get<0>(), low.get<1>(), high.get<0>(), high.get<1>()}};
-        }
+        auto add = [&to](const Value &v) {
+            const Point &low = v.first.min_corner(), &high = v.first.max_corner();
+            *to++ = {v.second, {low.get<0>(), low.get<1>(), high.get<0>(), high.get<1>()}};
+        };
+        tree_.query(boost::geometry::index::intersects(geometry(w)), boost::make_function_output_iterator(add));
         by_train(out, to);
         return to - out;
     }
@@ -169,13 +190,17 @@ private:
 // The boards of a peer, kept up to date by its reports: each terminal's rows by train.
 class Boards {
 public:
-    explicit Boards(const std::vector<Box> &windows) : windows_(windows) {}
+    explicit Boards(const std::vector<Box> &windows) {
+        for (int j = 0; j < kBoards; j++)
+            x0_[j] = windows[j].x0, y0_[j] = windows[j].y0, x1_[j] = windows[j].x1, y1_[j] = windows[j].y1, bit_[j] = 1u << j;
+    }
 
     // How many boards list the train before or after.
     uint32_t report(const Row &r) {
         uint32_t &listed = listed_.of(r.train), before = listed, after = 0;
+        const int32_t x0 = r.box.x0, y0 = r.box.y0, x1 = r.box.x1, y1 = r.box.y1;
         for (int j = 0; j < kBoards; j++)
-            after |= static_cast<uint32_t>(meets(windows_[j], r.box)) << j;
+            after |= bit_[j] & -static_cast<uint32_t>((x0_[j] <= x1) & (x0 <= x1_[j]) & (y0_[j] <= y1) & (y0 <= y1_[j]));
         listed = after;
         for (uint32_t left = before | after; left != 0; left &= left - 1)
             update(__builtin_ctz(left), r, before, after);
@@ -211,7 +236,8 @@ private:
             *at = r;
     }
 
-    const std::vector<Box> &windows_;
+    int32_t x0_[kBoards], y0_[kBoards], x1_[kBoards], y1_[kBoards];
+    uint32_t bit_[kBoards];
     Known<uint32_t> listed_;
     List lists_[kBoards];
 };

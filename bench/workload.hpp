@@ -16,10 +16,6 @@ struct Row {
     Box box;
 };
 
-inline bool meets(const Box &a, const Box &b) {
-    return a.x0 <= b.x1 && b.x0 <= a.x1 && a.y0 <= b.y1 && b.y0 <= a.y1;
-}
-
 // Pseudo-random numbers, the same everywhere.
 class Draw {
 public:
