@@ -1,32 +1,31 @@
 -- What each way out of a query, a board test and a reading of board rows says of the whole call. Assumes nothing.
 use Prim.Native.Nat.{ℕ, zero, suc, _+_, _-_, _*_, _≤_, _<_}
 use native.Mathlib.Omega.{arith}
-use native.Mathlib.Nat.{add-sub-cancel-left}
-use mathlib.Core.Path.{_≡_, refl, sym, _∙_, ap}
+use mathlib.Core.Path.{_≡_, refl, sym, _∙_}
 use mathlib.Core.Bool.{Bool, true, false, not}
-use mathlib.Core.List.{List, [], _∷_, _++_, map, flatMap}
+use mathlib.Core.List.{List, _++_, map, flatMap}
 use lib.Dec.{leb}
-use lib.ListN.{length, getD, take, drop, take-append-drop, length-drop}
-use lib.Seq.{take-at, take-append-le, drop-append-le, drop-drop, length-take-le}
-use borrow.Author.Tests.{le-leb, lt-leb, lt-ltb, le-ltb, leb-false, not-true, not-false}
+use lib.ListN.{length, getD, take, drop}
+use borrow.Author.Tests.{le-leb, lt-leb, lt-ltb, le-ltb, not-true, not-false}
+use mir.Syntax.{w64}
+use mir.Val.{Fits as Number}
 use Rattle.rules.specs.declared.Window.{Window}
 use Rattle.rules.specs.declared.Row.{Row}
-use Rattle.rules.specs.Lists.{padded}
 use Rattle.rules.specs.Boxes.{proper-window}
-use Rattle.rules.specs.Store.{Board, row-limit, board-at, row-words, window-words, board-words, board-of, store-of}
+use Rattle.rules.specs.Store.{board-at, row-words, board-of, store-of}
 use Rattle.rules.specs.Live.{rows-in}
 use Rattle.rules.specs.Boards.{is-open}
-use Rattle.rules.specs.Numbers.{Refusal, _when_, first-met}
-use Rattle.rules.specs.Calls.{store-tests, query-number, queried-by, query-call, board-test, rows-by, board-rows}
-use Rattle.rules.specs.laws.All.{always}
+use Rattle.rules.specs.Numbers.{Refusal, first-met}
+use Rattle.rules.specs.Calls.{store-tests, query-number, queried-by, query-call, board-test, board-rows}
 use Rattle.rules.specs.laws.Numbers.{Numbered, unmet, met-first, none-met}
-use Rattle.rules.specs.laws.Words.{flat-length, row-words-length}
 use Rattle.query.specs.Keys.{row-of-key, Searchable, sound-searchable, searchable-placed, Found}
 use Rattle.query.specs.Rows.{answer-written}
 use Rattle.rules.specs.laws.Placed.{Placed, boards-count}
 use Rattle.parts.specs.BoardAt.{BoardAt}
 use Rattle.index.specs.declared.Answer.the-variants.{Listed, Refused}
 use Rattle.index.specs.Answers.{Answered}
+use Rattle.index.specs.declared.Part.{Part}
+use Rattle.index.specs.Rows.{part-by, board-part, read-placed, read-inside, part-inside}
 
 -- ---- a store that is judged
 module _ (v : List ℕ) (number : ℕ) (judged : number ≡ first-met (store-tests v)) where
@@ -103,46 +102,38 @@ module _ (v : List ℕ) (number : ℕ) (judged : number ≡ first-met (store-tes
         open-board f = sym (passed e _ ∙ rw (there, sym seen ∙ not-false o f))
 
 -- ---- a board's rows
-rows-there : (b : Board) → take (5 * length (b .rows)) (drop 6 (board-words b)) ≡ flatMap row-words (b .rows)
-unfolding board-words window-words padded
-rows-there b = take-at (flatMap row-words (b .rows)) _ (5 * length (b .rows)) (flat-length row-words 5 (always row-words-length (b .rows)))
-
--- a part of a part
-part-of : (w : List ℕ) (m j k : ℕ) → m ≤ length w → j + k ≤ m → take k (drop j (take m w)) ≡ take k (drop j w)
-part-of w m j k h g =
-    let l = length-take-le m w h in
-    sym (ap (λ z. take k (drop j z)) (sym (take-append-drop m w)) ∙ rw (drop-append-le j (take m w) (drop m w) (omega arith)) (take-append-le k (drop j (take m w)) (drop m w) (simp length-drop (omega arith))))
-
 module _ (v : List ℕ) (i t : ℕ) (tested : t ≡ board-test v i) where
-  pub no-rows : (t ≡ 0 → ⊥) → take (0 - 0) (drop 0 v) ≡ board-rows v i
-  unfolding board-rows rows-by
-  no-rows h = go (board-test v i) (λ e. h (tested ∙ e))
+  pub no-part : (t ≡ 0 → ⊥) → record { number = t; from = 0; to = 0 } ≡ board-part v i
+  unfolding board-part part-by
+  no-part h = go t h tested
     where
-      go : (m : ℕ) → (m ≡ 0 → ⊥) → [] ≡ rows-by m v i
-      go zero k = absurd (k refl)
-      go (suc m) k = refl
+      go : (m : ℕ) → (m ≡ 0 → ⊥) → m ≡ board-test v i → record { number = m; from = 0; to = 0 } ≡ part-by (board-test v i) v i
+      go zero k e = absurd (k refl)
+      go (suc m) k e = rw (← e)
 
   module _ (e : t ≡ 0) where
-    abbrev others : List Refusal
-    others = (9 when leb (length (store-of v .boards)) i) ∷ (10 when not (is-open (board-at (store-of v) i))) ∷ []
+    pub part-placed : Placed v
+    part-placed = read-placed v i (sym tested ∙ e)
 
-    pub rows-searchable : Searchable v
-    unfolding board-test store-tests
-    rows-searchable = sound-searchable v (not-false _ (unmet (store-tests v ++ others) (omega arith) (sym tested ∙ e) .1 .1 .1 .0))
+    pub part-board : i < length (store-of v .boards)
+    part-board = read-inside v i (sym tested ∙ e)
 
-    pub rows-inside : i < length (store-of v .boards)
-    unfolding board-test store-tests
-    rows-inside = leb-false _ _ (unmet (store-tests v ++ others) (omega arith) (sym tested ∙ e) .1 .1 .1 .1 .0)
+    pub part-found : (a n : ℕ) → BoardAt v i a → n ≡ length (board-of (take (a + 86 - a) (drop a v)) .rows) → record { number = 0; from = a + 6; to = a + 6 + 5 * n } ≡ board-part v i
+    unfolding board-part part-by
+    part-found a n at many =
+        let z : board-test v i ≡ 0 = sym tested ∙ e in
+        rw (z, ← at .starts, ← at .there, many)
 
-    module _ (a n : ℕ) (at : BoardAt v i a) (many : n ≡ length (board-of (take (a + 86 - a) (drop a v)) .rows)) (few : n ≤ row-limit) where
-      pub rows-read : take (a + 6 + 5 * n - (a + 6)) (drop (a + 6) v) ≡ board-rows v i
-      unfolding board-rows rows-by
-      rows-read =
-          let z : board-test v i ≡ 0 = sym tested ∙ e in
-          let l : take (a + 86 - a) (drop a v) ≡ take 86 (drop a v) = rw (add-sub-cancel-left a 86) in
-          let b = board-of (take 86 (drop a v)) in
-          let same : board-words b ≡ take 86 (drop a v) = rw l at (at .own .same) in
-          let c : b ≡ board-at (store-of v) i = rw l at (at .there) in
-          let m : n ≡ length (b .rows) = rw l at many in
-          let room : 86 ≤ length (drop a v) = simp length-drop (omega (arith, at .room)) in
-          rw (z, add-sub-cancel-left (a + 6) (5 * n), ← drop-drop 6 a v, ← part-of (drop a v) 86 6 (5 * n) room (omega arith), ← same, m, ← c) (rows-there b)
+-- what the part is good for, where it is given
+module _ (v : List ℕ) (i : ℕ) (p : Part) (e : p ≡ board-part v i) where
+  pub part-fits : Number w64 (p .from * 4)
+  part-fits = record { fits = omega (arith, part-inside v i p e .ordered, part-inside v i p e .low) }
+
+  pub part-ordered : p .from ≤ p .to
+  part-ordered = part-inside v i p e .ordered
+
+  pub part-within : p .to ≤ length v
+  part-within = part-inside v i p e .within
+
+  pub part-holds : take (p .to - p .from) (drop (p .from) v) ≡ board-rows v i
+  part-holds = part-inside v i p e .holds

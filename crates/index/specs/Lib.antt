@@ -1,4 +1,5 @@
--- The fresh store's words, and what a query's answer says.
+-- The fresh store's words, what a query's answer says, and where a board's rows stand.
 pub mod Fresh
 pub mod Answers
 pub mod Running
+pub mod Rows

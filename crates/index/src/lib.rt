@@ -7,6 +7,7 @@ ghost use Rattle.rules.specs.Lists.{padded};
 ghost use Rattle.rules.specs.Calls as calls;
 ghost use Rattle.index.specs.Fresh.{first-words};
 ghost use Rattle.index.specs.Answers.{Answered};
+ghost use Rattle.index.specs.Rows.{board-part};
 
 // ---- start
 
@@ -127,17 +128,42 @@ pub fn board_test(store: &[u32], i: u32) -> u32
     0
 }
 
-// Board i's rows as they stand in the store, from the first to the last, or an empty part where the test refuses.
-pub fn board_rows<'a>(store: &'a [u32], i: u32) -> &'a [u32]
-    ensures { λ r. ⌜ now r ≡ calls.board-rows (now (store .entry)) i ⌝ }
+// Where board i's rows stand in the store: from the first word of the first row to behind the last one's; number is the test's.
+pub struct Part {
+    pub number: u32,
+    pub from: usize,
+    pub to: usize,
+}
+
+// The part of the store that holds board i's rows, an empty one where the test refuses.
+pub fn board_part(store: &[u32], i: u32) -> Part
+    ensures { λ r. ⌜ r ≡ board-part (now (store .entry)) i ⌝ }
 {
-    if board_test(store, i) != 0 {
-        return &store[0..0];
+    let number = board_test(store, i);
+    if number != 0 {
+        return Part {
+            number,
+            from: 0,
+            to: 0,
+        };
     }
     let a = parts::board_start(store, i as usize);
     let e = a + 86;
     let n = board::row_count(&store[a..e]);
     let from = a + 6;
-    let to = from + 5 * n;
+    Part {
+        number: 0,
+        from,
+        to: from + 5 * n,
+    }
+}
+
+// Board i's rows as they stand in the store, or an empty part where the test refuses.
+pub fn board_rows<'a>(store: &'a [u32], i: u32) -> &'a [u32]
+    ensures { λ r. ⌜ now r ≡ calls.board-rows (now (store .entry)) i ⌝ }
+{
+    let part = board_part(store, i);
+    let from = part.from;
+    let to = part.to;
     &store[from..to]
 }

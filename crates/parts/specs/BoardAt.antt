@@ -1,11 +1,11 @@
 -- Where a board's own words stand in the words of a store, to be read or written there.
 use Prim.Native.Nat.{ℕ, _+_, _-_, _*_, _≤_, _<_}
-use mathlib.Core.Path.{_≡_, ap, _∙_}
+use mathlib.Core.Path.{_≡_, refl, sym, ap, _∙_}
 use mathlib.Core.List.{List}
 use lib.ListN.{length, getD, take, drop}
 use Rattle.rules.specs.Store.{boards-start, board-of, board-at, store-of}
 use Rattle.rules.specs.laws.Parts.{board-fits}
-use Rattle.rules.specs.laws.Placed.{Placed, most-words, board-low, board-start, board-room, board-part}
+use Rattle.rules.specs.laws.Placed.{Placed, most-words, pages-count, slots-count, board-low, board-start, board-room, board-part}
 use Rattle.rules.specs.laws.Words.{board-read}
 use Rattle.board.specs.Rows.{BoardWords}
 use Rattle.board.specs.Laws.{board-is}
@@ -31,3 +31,9 @@ module _ (v : List ℕ) (h : Placed v) (p k from i : ℕ) (pages : p ≡ getD v 
         own = rw part (board-is (board-at (store-of v) i) few);
         there = ap board-of part ∙ board-read (board-at (store-of v) i) few;
       }
+
+-- so every board, by the counts that are read
+pub board-placed : (v : List ℕ) → Placed v → (i : ℕ) → i < length (store-of v .boards)
+    → BoardAt v i (boards-start (length (store-of v .pages)) (store-of v .slots) + 86 * i)
+board-placed v h i inside =
+    board-starts v h (length (store-of v .pages)) (store-of v .slots) (boards-start (length (store-of v .pages)) (store-of v .slots)) i (sym (pages-count v h)) (sym (slots-count v h)) refl inside

@@ -1,7 +1,7 @@
 // The calls for programs in C and Rust. A slice is passed as its first word's address and its number of words.
 ghost use mathlib.Core.Path.{_≡_};
 ghost use Rattle.rules.specs.Calls as calls;
-ghost use Rattle.index.specs.Answers.{number-of, count-of};
+ghost use Rattle.index.specs.Rows.{board-part};
 
 #[no_mangle]
 pub extern "C" fn shunebokai_start(p: u32, k: u32, b: u32, store: &mut [u32]) -> u32
@@ -40,4 +40,20 @@ pub extern "C" fn shunebokai_board_test(store: &[u32], i: u32) -> u32
     ensures { λ r. ⌜ r ≡ calls.board-test (now (store .entry)) i ⌝ }
 {
     index::board_test(store, i)
+}
+
+// The number of the board's test; the rows stand in the store's words from `from` to before `to`, none where it is refused.
+#[no_mangle]
+pub extern "C" fn shunebokai_board_rows(
+    store: &[u32],
+    i: u32,
+    from: &mut usize,
+    to: &mut usize,
+) -> u32
+    ensures { λ r. ⌜ board-part (now (store .entry)) i ≡ record { number = r; from = now (from .exit); to = now (to .exit) } ⌝ }
+{
+    let part = index::board_part(store, i);
+    *from = part.from;
+    *to = part.to;
+    part.number
 }

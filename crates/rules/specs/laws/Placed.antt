@@ -33,7 +33,7 @@ module _ (v : List ℕ) (h : Placed v) where
   pub pages-count : getD v 5 0 ≡ length (store-of v .pages)
   pages-count = rw (h .written) at (pages-there (store-of v))
 
-  slots-count : getD v 7 0 ≡ store-of v .slots
+  pub slots-count : getD v 7 0 ≡ store-of v .slots
   slots-count = rw (h .written) at (slots-there (store-of v))
 
   pub boards-count : (n : ℕ) → n ≡ getD v 9 0 → n ≡ length (store-of v .boards)
