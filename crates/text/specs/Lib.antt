@@ -1,0 +1,5 @@
+-- The program's text: how its input is read, how its output is written, and what it prints for any input.
+pub mod Reading
+pub mod Printing
+pub mod Program
+pub mod Examples

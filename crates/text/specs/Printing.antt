@@ -1,0 +1,61 @@
+-- The program's output: decimals, lines of them, and the words beside them.
+use Prim.Native.Nat.{ℕ, zero, suc, _+_, _/_, _%_}
+use Prim.Native.Char.{code}
+use Prim.Native.String.{String, len, charAt}
+use mathlib.Core.Bool.{cond}
+use mathlib.Core.List.{List, [], _∷_, _++_, flatMap}
+use lib.Dec.{ltb}
+use lib.ListN.{length, getD, drop}
+use Rattle.rules.specs.Lists.{from, keep}
+use Rattle.rules.specs.Store.{Store, Board, row-words, board-at}
+use Rattle.rules.specs.Boards.{is-open}
+use Rattle.text.specs.Reading.{newline, space}
+
+-- the bytes of a text
+unfoldable pub bytes-from : ℕ → String → ℕ → List ℕ
+bytes-from zero s i = []
+bytes-from (suc n) s i = code (charAt s i) ∷ bytes-from n s (suc i)
+
+unfoldable pub bytes : String → List ℕ
+bytes s = bytes-from (len s) s 0
+
+-- ---- a decimal, without leading zeros: n itself has no more digits than one more than n
+unfoldable pub digits : ℕ → ℕ → List ℕ
+digits zero n = []
+digits (suc most) n = let before = digits most (n / 10) in cond (ltb n 10) ((48 + n) ∷ []) (before ++ ((48 + n % 10) ∷ []))
+
+unfoldable pub decimal : ℕ → List ℕ
+decimal n = digits (suc n) n
+
+-- ---- a line of decimals with single spaces
+abbrev pub ended : List ℕ → ℕ
+ended [] = newline
+ended (n ∷ ns) = space
+
+unfoldable pub line : List ℕ → List ℕ
+line [] = []
+line (n ∷ ns) = decimal n ++ (ended ns ∷ line ns)
+
+-- ---- what is printed of a start, of a bad line, and of an input too long
+unfoldable pub start-line : ℕ → List ℕ
+start-line n = bytes "start " ++ line (n ∷ [])
+
+unfoldable pub bad-line : ℕ → List ℕ
+bad-line n = bytes "bad line " ++ line (n ∷ [])
+
+unfoldable pub too-long : List ℕ
+too-long = bytes "too long\n"
+
+-- ---- of the steps: each one's kind, then its number and count
+unfoldable pub step-lines : List (List ℕ) → List ℕ → List ℕ
+step-lines [] answers = []
+step-lines (s ∷ ss) answers = line (getD s 0 0 ∷ getD answers 0 0 ∷ getD answers 1 0 ∷ []) ++ step-lines ss (drop 2 answers)
+
+-- ---- of board i: its rows, one line a row
+unfoldable pub board-lines : ℕ → List (List ℕ) → List ℕ
+board-lines i rows = bytes "board " ++ (decimal i ++ (bytes " rows " ++ (line (length rows ∷ []) ++ flatMap line rows)))
+
+-- a proof that says `unfolding printing-open` sees through every definition of this file
+unfoldable pub printing-open : Unit {0}
+unfolding bytes-from bytes digits decimal line start-line bad-line too-long step-lines board-lines
+printing-open = tt
