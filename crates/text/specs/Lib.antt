@@ -1,6 +1,7 @@
 -- The program's text: how its input is read, how its output is written, and what it prints for any input.
 pub mod Laid
 pub mod Reading
+pub mod Laws
 pub mod Promised
 pub mod Printing
 pub mod Program

@@ -72,8 +72,8 @@ unfoldable pub words-read : ℕ → List ℕ → List ℕ
 words-read n line = words-before (take n (fields line))
 
 -- ---- the lines of steps
-unfoldable pub is-step : List ℕ → Bool
-is-step = in-form 6
+abbrev pub is-step : List ℕ → Bool
+is-step l = in-form 6 l
 
 -- how many stand before the first that is bad
 unfoldable pub good : List (List ℕ) → ℕ
@@ -93,5 +93,5 @@ all-read (l ∷ ls) = let later = all-read ls in words-read 6 l ++ cond (is-step
 
 -- a proof that says `unfolding reading-open` sees through every definition of this file
 unfoldable pub reading-open : Unit {0}
-unfolding onto parts is-digit value-from value is-decimal number-in all-decimals in-form words-in words-before words-read is-step good has-bad steps-in all-read
+unfolding onto parts is-digit value-from value is-decimal number-in all-decimals in-form words-in words-before words-read good has-bad steps-in all-read
 reading-open = tt
