@@ -4,5 +4,6 @@ pub mod Reading
 pub mod Laws
 pub mod Promised
 pub mod Printing
+pub mod Decimals
 pub mod Program
 pub mod Examples

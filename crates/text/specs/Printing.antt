@@ -27,14 +27,14 @@ digits (suc most) n = let before = digits most (n / 10) in cond (ltb n 10) ((48 
 unfoldable pub decimal : ℕ → List ℕ
 decimal n = digits (suc n) n
 
--- ---- a line of decimals with single spaces
-abbrev pub ended : List ℕ → ℕ
-ended [] = newline
-ended (n ∷ ns) = space
+-- ---- a line of decimals with single spaces: what ends one, with so many left
+abbrev pub ended : ℕ → ℕ
+ended zero = newline
+ended (suc left) = space
 
 unfoldable pub line : List ℕ → List ℕ
 line [] = []
-line (n ∷ ns) = decimal n ++ (ended ns ∷ line ns)
+line (n ∷ ns) = decimal n ++ (ended (length ns) ∷ line ns)
 
 -- ---- what is printed of a start, of a bad line, and of an input too long
 unfoldable pub start-line : ℕ → List ℕ

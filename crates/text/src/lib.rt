@@ -6,6 +6,7 @@ ghost use lib.ListN.{length, drop};
 ghost use Rattle.rules.specs.Lists.{first};
 ghost use Rattle.text.specs.Reading.{number-in, in-form, words-read, lines};
 ghost use Rattle.text.specs.Laid.{Laid};
+ghost use Rattle.text.specs.Printing as spec;
 ghost use Rattle.text.specs.Promised.{Until, LineRead, StepsRead};
 
 // ---- reading
@@ -116,4 +117,85 @@ pub fn steps(text: &[u8], from: usize, out: &mut [u32]) -> StepCount
         count,
         bad: false,
     }
+}
+
+// ---- printing: each lays its bytes out at a place and answers the place behind them
+
+pub fn put(bytes: &[u8], out: &mut [u8], at: usize) -> usize
+    requires { ⌜ at + length (now bytes) ≤ length (now out) ⌝ }
+    ensures { λ r. ⌜ Laid (now (out .entry)) at (now (bytes .entry)) (now (out .exit)) r ⌝ }
+{
+    let mut i = 0;
+    while i < bytes.len() {
+        out[at + i] = bytes[i];
+        i += 1;
+    }
+    at + i
+}
+
+// A decimal, without leading zeros.
+pub fn put_decimal(n: u32, out: &mut [u8], at: usize) -> usize
+    requires { ⌜ at + 10 ≤ length (now out) ⌝ }
+    ensures { λ r. ⌜ Laid (now (out .entry)) at (spec.decimal n) (now (out .exit)) r ⌝ }
+    ensures { λ r. ⌜ r ≤ at + 10 ⌝ }
+{
+    if n < 10 {
+        out[at] = 48 + n as u8;
+        return at + 1;
+    }
+    let e = put_decimal(n / 10, out, at);
+    out[e] = 48 + (n % 10) as u8;
+    e + 1
+}
+
+// What ends a decimal of a line, with so many left.
+fn ended(left: usize) -> u8
+    ensures { λ r. ⌜ r ≡ spec.ended left ⌝ }
+{
+    if left == 0 { 10 } else { 32 }
+}
+
+// A line of decimals.
+pub fn put_line(words: &[u32], out: &mut [u8], at: usize) -> usize
+    requires { ⌜ at + 11 * length (now words) ≤ length (now out) ⌝ }
+    ensures { λ r. ⌜ Laid (now (out .entry)) at (spec.line (now (words .entry))) (now (out .exit)) r ⌝ }
+    ensures { λ r. ⌜ r ≤ at + 11 * length (now (words .entry)) ⌝ }
+{
+    let n = words.len();
+    let mut to = at;
+    let mut i = 0;
+    while i < n {
+        let e = put_decimal(words[i], out, to);
+        i += 1;
+        out[e] = ended(n - i);
+        to = e + 1;
+    }
+    to
+}
+
+pub fn put_start(number: u32, out: &mut [u8], at: usize) -> usize
+    requires { ⌜ at + 17 ≤ length (now out) ⌝ }
+    ensures { λ r. ⌜ Laid (now (out .entry)) at (spec.start-line number) (now (out .exit)) r ⌝ }
+    ensures { λ r. ⌜ r ≤ at + 17 ⌝ }
+{
+    let to = put(b"start ", out, at);
+    let one = [number];
+    put_line(&one, out, to)
+}
+
+pub fn put_bad_line(n: u32, out: &mut [u8], at: usize) -> usize
+    requires { ⌜ at + 20 ≤ length (now out) ⌝ }
+    ensures { λ r. ⌜ Laid (now (out .entry)) at (spec.bad-line n) (now (out .exit)) r ⌝ }
+    ensures { λ r. ⌜ r ≤ at + 20 ⌝ }
+{
+    let to = put(b"bad line ", out, at);
+    let one = [n];
+    put_line(&one, out, to)
+}
+
+pub fn put_too_long(out: &mut [u8], at: usize) -> usize
+    requires { ⌜ at + 9 ≤ length (now out) ⌝ }
+    ensures { λ r. ⌜ Laid (now (out .entry)) at spec.too-long (now (out .exit)) r ⌝ }
+{
+    put(b"too long\n", out, at)
 }
