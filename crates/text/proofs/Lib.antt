@@ -2,3 +2,4 @@ pub mod Fields
 pub mod Lines
 pub mod ManyLines
 pub mod Puts
+pub mod Tables

@@ -71,7 +71,6 @@ module _ (text : List ℕ) (at b e : ℕ) (u : Until text at b e) where
       let l : e - at < length (drop at text) = simp length-drop (omega (arith, u .inside, u .behind, h)) in
       rw (place, next) at (first-part b last (drop at text) (rw place l))
 
-
 module _ (line : List ℕ) (at e : ℕ) (u : Until line at space e) where
   pub more-fields : (e ≡ length line → ⊥) → fields (drop at line) ≡ here line at space e u ∷ fields (drop (e + 1) line)
   more-fields h = more-parts line at space e u ([] ∷ []) h
@@ -191,7 +190,7 @@ module _ (line out : List ℕ) (n : ℕ) (now : List ℕ) (at i : ℕ) (s : Scan
       written-on : Partly out 0 (words-read n line) (set now i v) (i + 1) (words-before (take (n - (i + 1)) fs))
       written-on =
           let w : words-before (take (n - i) (fields (drop at line))) ≡ v ∷ words-before (take (n - (i + 1)) fs) =
-              rw (parted, fewer, value-told v f told .1) (words-on (n - (i + 1)) f fs (value-told v f told .0)) in
+          rw (parted, fewer, value-told v f told .1) (words-on (n - (i + 1)) f fs (value-told v f told .0)) in
           one-more (s .written) (one-laid now i v (omega (arith, now-long))) w
 
       decided-on : in-form n line ≡ all-decimals (n - (i + 1)) fs

@@ -44,7 +44,7 @@ module _ {out : List ℕ} {at : ℕ} {xs mid : List ℕ} {to : ℕ} (l : Laid ou
   both-laid {ys} {after} {end} m =
       let n : at + length (xs ++ ys) ≡ to + length ys = simp length-append (omega (arith, l .ends)) in
       let d : drop (to + length ys) mid ≡ drop (at + length (xs ++ ys)) out =
-          sym (drop-drop (length ys) to mid) ∙ ap (drop (length ys)) behind ∙ drop-drop (length ys) (at + length xs) out ∙ ap (λ k. drop k out) (ap (λ k. k + length ys) (sym (l .ends)) ∙ sym n) in
+      sym (drop-drop (length ys) to mid) ∙ ap (drop (length ys)) behind ∙ drop-drop (length ys) (at + length xs) out ∙ ap (λ k. drop k out) (ap (λ k. k + length ys) (sym (l .ends)) ∙ sym n) in
       record {
         room = omega (arith, m .room, laid-length l);
         written = m .written ∙ rw (front, d, append-assoc, append-assoc);
@@ -59,7 +59,7 @@ lent-laid w a n fits text part to l =
     let v = drop a w in
     let t : length (take m v) ≡ m = length-take-le m v (simp length-drop (omega arith)) in
     let d : drop (length text) v ≡ drop (length text) (take m v) ++ drop m v =
-        ap (drop (length text)) (sym (take-append-drop m v)) ∙ drop-append-le (length text) (take m v) (drop m v) (omega (arith, l .room)) in
+    ap (drop (length text)) (sym (take-append-drop m v)) ∙ drop-append-le (length text) (take m v) (drop m v) (omega (arith, l .room)) in
     let z : 0 + length text ≡ length text = omega arith in
     let p : part ≡ text ++ drop (length text) (take m v) = l .written ∙ ap (λ k. text ++ drop k (take m v)) z in
     record {

@@ -12,11 +12,11 @@ use Rattle.rules.specs.Boards.{is-open}
 use Rattle.text.specs.Reading.{newline, space}
 
 -- the bytes of a text
-unfoldable pub bytes-from : ℕ → String → ℕ → List ℕ
+abbrev pub bytes-from : ℕ → String → ℕ → List ℕ
 bytes-from zero s i = []
 bytes-from (suc n) s i = code (charAt s i) ∷ bytes-from n s (suc i)
 
-unfoldable pub bytes : String → List ℕ
+abbrev pub bytes : String → List ℕ
 bytes s = bytes-from (len s) s 0
 
 -- ---- a decimal, without leading zeros: n itself has no more digits than one more than n
@@ -51,11 +51,14 @@ unfoldable pub step-lines : List (List ℕ) → List ℕ → List ℕ
 step-lines [] answers = []
 step-lines (s ∷ ss) answers = line (getD s 0 0 ∷ getD answers 0 0 ∷ getD answers 1 0 ∷ []) ++ step-lines ss (drop 2 answers)
 
--- ---- of board i: its rows, one line a row
+-- ---- of board i: how many rows it has, and one line a row
+unfoldable pub board-title : ℕ → ℕ → List ℕ
+board-title i count = bytes "board " ++ (decimal i ++ (bytes " rows " ++ line (count ∷ [])))
+
 unfoldable pub board-lines : ℕ → List (List ℕ) → List ℕ
-board-lines i rows = bytes "board " ++ (decimal i ++ (bytes " rows " ++ (line (length rows ∷ []) ++ flatMap line rows)))
+board-lines i rows = board-title i (length rows) ++ flatMap line rows
 
 -- a proof that says `unfolding printing-open` sees through every definition of this file
 unfoldable pub printing-open : Unit {0}
-unfolding bytes-from bytes digits decimal line start-line bad-line too-long step-lines board-lines
+unfolding digits decimal line start-line bad-line too-long step-lines board-title board-lines
 printing-open = tt

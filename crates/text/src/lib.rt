@@ -1,9 +1,10 @@
 // The program's text: reading lines of decimals, and laying out what is printed.
 ghost use mathlib.Core.Path.{_≡_};
+ghost use mathlib.Core.List.{flatMap};
 ghost use Prim.Native.Nat.{_+_, _*_, _≤_, _<_};
 ghost use lib.Dec.{eqb};
 ghost use lib.ListN.{length, drop};
-ghost use Rattle.rules.specs.Lists.{first};
+ghost use Rattle.rules.specs.Lists.{cut};
 ghost use Rattle.text.specs.Reading.{number-in, in-form, words-read, lines};
 ghost use Rattle.text.specs.Laid.{Laid};
 ghost use Rattle.text.specs.Printing as spec;
@@ -105,18 +106,12 @@ pub fn steps(text: &[u8], from: usize, out: &mut [u32]) -> StepCount
         let a = 6 * count;
         let z = a + 6;
         if !numbers(&text[at..e], &mut out[a..z]) {
-            return StepCount {
-                count,
-                bad: true,
-            };
+            return StepCount { count, bad: true };
         }
         count += 1;
         at = e + 1;
     }
-    StepCount {
-        count,
-        bad: false,
-    }
+    StepCount { count, bad: false }
 }
 
 // ---- printing: each lays its bytes out at a place and answers the place behind them
@@ -198,4 +193,61 @@ pub fn put_too_long(out: &mut [u8], at: usize) -> usize
     ensures { λ r. ⌜ Laid (now (out .entry)) at spec.too-long (now (out .exit)) r ⌝ }
 {
     put(b"too long\n", out, at)
+}
+
+// What n steps, of six words each, and their answers, of two, are told as.
+pub fn put_answers(steps: &[u32], answers: &[u32], n: usize, out: &mut [u8], at: usize) -> usize
+    requires { ⌜ (length (now steps) ≡ 6 * n) × (length (now answers) ≡ 2 * n) ⌝ }
+    requires { ⌜ at + 33 * n ≤ length (now out) ⌝ }
+    ensures { λ r. ⌜ Laid (now (out .entry)) at (spec.step-lines (cut n 6 (now (steps .entry))) (now (answers .entry))) (now (out .exit)) r ⌝ }
+    ensures { λ r. ⌜ r ≤ at + 33 * n ⌝ }
+{
+    let mut to = at;
+    let mut i = 0;
+    while i < n {
+        let three = [steps[6 * i], answers[2 * i], answers[2 * i + 1]];
+        to = put_line(&three, out, to);
+        i += 1;
+    }
+    to
+}
+
+// n rows of five words each, one line a row.
+fn put_rows(rows: &[u32], n: usize, out: &mut [u8], at: usize) -> usize
+    requires { ⌜ (length (now rows) ≡ 5 * n) × (at + 55 * n ≤ length (now out)) ⌝ }
+    ensures { λ r. ⌜ Laid (now (out .entry)) at (flatMap spec.line (cut n 5 (now (rows .entry)))) (now (out .exit)) r ⌝ }
+    ensures { λ r. ⌜ r ≤ at + 55 * n ⌝ }
+{
+    let mut to = at;
+    let mut i = 0;
+    while i < n {
+        let a = 5 * i;
+        let e = a + 5;
+        to = put_line(&rows[a..e], out, to);
+        i += 1;
+    }
+    to
+}
+
+// The line over the n rows of board i.
+fn put_title(i: u32, n: u32, out: &mut [u8], at: usize) -> usize
+    requires { ⌜ at + 33 ≤ length (now out) ⌝ }
+    ensures { λ r. ⌜ Laid (now (out .entry)) at (spec.board-title i n) (now (out .exit)) r ⌝ }
+    ensures { λ r. ⌜ r ≤ at + 33 ⌝ }
+{
+    let a = put(b"board ", out, at);
+    let b = put_decimal(i, out, a);
+    let c = put(b" rows ", out, b);
+    let one = [n];
+    put_line(&one, out, c)
+}
+
+// Board i and its n rows.
+pub fn put_board(i: u32, rows: &[u32], n: u32, out: &mut [u8], at: usize) -> usize
+    requires { ⌜ (length (now rows) ≡ 5 * n) × (at + 33 + 55 * n ≤ length (now out)) ⌝ }
+    ensures { λ r. ⌜ Laid (now (out .entry)) at (spec.board-lines i (cut n 5 (now (rows .entry)))) (now (out .exit)) r ⌝ }
+    ensures { λ r. ⌜ r ≤ at + 33 + 55 * n ⌝ }
+{
+    let to = put_title(i, n, out, at);
+    put_rows(rows, n as usize, out, to)
 }
