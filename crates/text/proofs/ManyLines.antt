@@ -14,7 +14,7 @@ use Rattle.text.specs.Reading.{parts, newline, lines, is-step, words-rea
 use Rattle.text.specs.Laid.{Laid, Partly, none-yet, one-more, all-laid, laid-length, lent-laid}
 use Rattle.text.specs.Laws.{line-long, words-same, words-many, none-good, bad-good, bad-has, bad-read, step-good, step-has, step-read}
 use Rattle.text.specs.Promised.{Until, LineRead, StepsRead}
-use Rattle.text.proofs.Lines.{next-line}
+use Rattle.text.specs.Cutting.{next-line}
 
 -- the lines from place `at` on are what is left, after `count` steps
 pub record Stepping (ls : List (List ℕ)) (out now : List ℕ) (count : ℕ) (rest : List (List ℕ)) : Type 0 where

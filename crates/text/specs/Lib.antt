@@ -3,6 +3,7 @@ pub mod Laid
 pub mod Reading
 pub mod Laws
 pub mod Promised
+pub mod Cutting
 pub mod Printing
 pub mod Decimals
 pub mod Program

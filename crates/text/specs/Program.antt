@@ -15,12 +15,14 @@ use Rattle.text.specs.Printing.{start-line, bad-line, too-long, step-lin
 abbrev pub most-bytes : ℕ
 most-bytes = 65_536
 
--- each open board, from number i on
+-- board i, if it is open
+unfoldable pub open-lines : ℕ → Board → List ℕ
+open-lines i b = let rows = board-lines i (map row-words (b .rows)) in cond (is-open b) rows []
+
+-- each board, from number i on
 unfoldable pub boards-from : ℕ → List Board → List ℕ
 boards-from i [] = []
-boards-from i (b ∷ bs) =
-    let rows = board-lines i (map row-words (b .rows)) in
-    cond (is-open b) rows [] ++ boards-from (suc i) bs
+boards-from i (b ∷ bs) = open-lines i b ++ boards-from (suc i) bs
 
 -- the lines after the first, from the started store on; the first bad line ends it, without boards
 unfoldable pub steps-printed : Store → List (List ℕ) → List ℕ
@@ -50,5 +52,5 @@ printed input = let text = lines-printed (lines input) in cond (ltb most-bytes (
 
 -- a proof that says `unfolding program-open` sees through every definition of this file
 unfoldable pub program-open : Unit {0}
-unfolding boards-from steps-printed start-printed lines-printed printed
+unfolding open-lines boards-from steps-printed start-printed lines-printed printed
 program-open = tt
