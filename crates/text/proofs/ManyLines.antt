@@ -95,3 +95,6 @@ module _ (text : List ℕ) (ls : List (List ℕ)) (out now : List ℕ) (count at
           let b : is-step l ≡ true = sym said ∙ not-false r t in
           let k : length l ≡ e - at = length-take-le (e - at) (drop at text) (simp length-drop (omega (arith, u .inside))) in
           omega (arith, line-long 6 l b, u .behind)
+
+      pub step-short : not r ≡ false → 12 * (count + 1) ≤ length text + 1
+      step-short t = omega (arith, step-long t, u .inside)

@@ -10,7 +10,7 @@ use lib.Seq.{take-all, take-append-add}
 use borrow.Author.Tests.{eqb-true, ltb-true, lt-ltb}
 use Rattle.rules.specs.Lists.{first, every, all-of}
 use Rattle.rules.specs.laws.Tests.{each, and-left, and-right}
-use Rattle.text.specs.Reading.{onto, parts, newline, space, lines, fields, is-decimal, value, all-decimals, in-form, words-in, words-before, words-read, is-step, good, has-bad, steps-in, all-read}
+use Rattle.text.specs.Reading.{onto, parts, space, fields, is-decimal, value, all-decimals, in-form, words-in, words-before, words-read, is-step, good, has-bad, steps-in, all-read}
 
 -- ---- how long a line of n decimals is at least: a byte for each, and one between each two
 abbrev total : List (List ℕ) → ℕ
@@ -107,25 +107,3 @@ read-first (l ∷ ls) = go (is-step l) refl (read-first ls)
         let k : 6 * suc (good ls) ≡ length (words-in l) + 6 * good ls = omega arith in
         rw (step-good l ls b, step-read l ls b, w, k, take-append-add (words-in l) (all-read ls) (6 * good ls)) (ap (λ r. words-in l ++ r) later)
     go false b later = rw (bad-good l ls b)
-
--- a step takes twelve bytes, with its newline
-lines-total : (b : ℕ) (xs : List ℕ) → total (parts b [] xs) ≤ suc (length xs)
-unfolding parts onto
-lines-total b [] = omega arith
-lines-total b (x ∷ xs) = go (eqb x b) (parts b [] xs) (lines-total b xs)
-  where
-    go : (t : Bool) (ps : List (List ℕ)) → total ps ≤ suc (length xs) → total (cond t ([] ∷ ps) (onto x ps)) ≤ suc (suc (length xs))
-    go true ps h = omega arith
-    go false [] h = omega arith
-    go false (p ∷ ps) h = omega arith
-
-steps-total : (ls : List (List ℕ)) → 12 * good ls ≤ total ls
-steps-total [] = rw none-good (omega arith)
-steps-total (l ∷ ls) = go (is-step l) refl (steps-total ls)
-  where
-    go : (t : Bool) → is-step l ≡ t → 12 * good ls ≤ total ls → 12 * good (l ∷ ls) ≤ total (l ∷ ls)
-    go true b h = rw (step-good l ls b) (omega (arith, line-long 6 l b))
-    go false b h = rw (bad-good l ls b) (omega arith)
-
-pub steps-few : (text : List ℕ) → 12 * good (lines text) ≤ suc (length text)
-steps-few text = omega (arith, steps-total (lines text), lines-total newline text)

@@ -98,6 +98,7 @@ pub struct StepCount {
 pub fn steps(text: &[u8], from: usize, out: &mut [u32]) -> StepCount
     requires { ⌜ length (now text) + 12 ≤ 2 * length (now out) ⌝ }
     ensures { λ r. ⌜ StepsRead (lines (drop from (now (text .entry)))) (now (out .entry)) r (now (out .exit)) ⌝ }
+    ensures { λ r. ⌜ 12 * r .count ≤ length (now (text .entry)) + 1 ⌝ }
 {
     let mut count = 0;
     let mut at = from;
