@@ -1,15 +1,17 @@
 -- Laws of lines that are in form, and of lines of steps.
-use Prim.Native.Nat.{ℕ, zero, suc, _+_, _*_, _≤_, _<_}
+use Prim.Native.Nat.{ℕ, zero, suc, _+_, _*_, _≤_, _<_, min}
 use native.Mathlib.Omega.{arith}
 use mathlib.Core.Path.{_≡_, refl, sym, _∙_, ap, ap₂}
 use mathlib.Core.Bool.{Bool, true, false, not, _&&_, cond}
-use mathlib.Core.List.{List, [], _∷_, _++_, map, flatMap, append-nil}
+use mathlib.Core.List.{List, [], _∷_, _++_, map, map-id, flatMap, append-nil}
 use lib.Dec.{eqb, ltb, leb·suc-suc}
-use lib.ListN.{length, take, length-map}
-use lib.Seq.{take-all, take-append-add}
+use lib.ListN.{length, take, length-map, length-take}
+use lib.Seq.{take-all, take-append-add, length-take-le}
 use borrow.Author.Tests.{eqb-true, ltb-true, lt-ltb}
-use Rattle.rules.specs.Lists.{first, every, all-of}
+use Rattle.rules.specs.Lists.{first, every, all-of, cut}
+use Rattle.rules.specs.laws.All.{All, none, more}
 use Rattle.rules.specs.laws.Tests.{each, and-left, and-right}
+use Rattle.rules.specs.laws.Words.{flat-length, cut-flat}
 use Rattle.text.specs.Reading.{onto, parts, space, fields, is-decimal, value, all-decimals, in-form, words-in, words-before, words-read, is-step, good, has-bad, steps-in, all-read}
 
 -- ---- how long a line of n decimals is at least: a byte for each, and one between each two
@@ -107,3 +109,37 @@ read-first (l ∷ ls) = go (is-step l) refl (read-first ls)
         let k : 6 * suc (good ls) ≡ length (words-in l) + 6 * good ls = omega arith in
         rw (step-good l ls b, step-read l ls b, w, k, take-append-add (words-in l) (all-read ls) (6 * good ls)) (ap (λ r. words-in l ++ r) later)
     go false b later = rw (bad-good l ls b)
+
+steps-long : (ls : List (List ℕ)) → All (λ s. length s ≡ 6) (steps-in ls)
+unfolding steps-in
+steps-long [] = rw none-good none
+steps-long (l ∷ ls) = go (is-step l) refl (steps-long ls)
+  where
+    go : (t : Bool) → is-step l ≡ t → All (λ s. length s ≡ 6) (map words-in (take (good ls) ls)) → All (λ s. length s ≡ 6) (map words-in (take (good (l ∷ ls)) (l ∷ ls)))
+    go true b later = rw (step-good l ls b) (more (words-many 6 l b) later)
+    go false b later = rw (bad-good l ls b) none
+
+good-most : (ls : List (List ℕ)) → good ls ≤ length ls
+good-most [] = rw none-good (omega arith)
+good-most (l ∷ ls) = go (is-step l) refl (good-most ls)
+  where
+    go : (t : Bool) → is-step l ≡ t → good ls ≤ length ls → good (l ∷ ls) ≤ suc (length ls)
+    go true b h = rw (step-good l ls b) (omega arith)
+    go false b h = rw (bad-good l ls b) (omega arith)
+
+steps-many : (ls : List (List ℕ)) → length (steps-in ls) ≡ good ls
+unfolding steps-in
+steps-many ls = length-map (take (good ls) ls) words-in ∙ length-take-le (good ls) ls (good-most ls)
+
+pub words-enough : (ls : List (List ℕ)) → 6 * good ls ≤ length (all-read ls)
+words-enough ls =
+    let f : length (flatMap (λ s. s) (steps-in ls)) ≡ 6 * length (steps-in ls) = flat-length (λ s. s) 6 (steps-long ls) in
+    let t : min (6 * good ls) (length (all-read ls)) ≡ 6 * good ls = sym (length-take (6 * good ls) (all-read ls)) ∙ ap length (read-first ls) ∙ f ∙ ap (λ n. 6 * n) (steps-many ls) in
+    omega (arith, t)
+
+-- cut into steps again, they are the steps
+pub steps-cut : (ls : List (List ℕ)) → cut (good ls) 6 (flatMap (λ s. s) (steps-in ls)) ≡ steps-in ls
+steps-cut ls =
+    ap₂ (λ n ws. cut n 6 ws) (sym (steps-many ls)) (sym (append-nil (flatMap (λ s. s) (steps-in ls))))
+    ∙ cut-flat (λ s. s) 6 (steps-long ls) []
+    ∙ map-id (steps-in ls)
