@@ -1,9 +1,9 @@
 -- Finding a byte, and what reading a field byte by byte comes to. Assumes nothing.
-use Prim.Native.Nat.{ℕ, zero, suc, _+_, _*_, _-_, _≤_, _<_}
+use Prim.Native.Nat.{ℕ, suc, _+_, _*_, _-_, _≤_, _<_}
 use native.Mathlib.Omega.{arith}
 use native.Mathlib.Numerals.{add-one}
-use mathlib.Core.Path.{_≡_, refl, sym, _∙_, ap}
-use mathlib.Core.Bool.{Bool, true, false, _&&_, and-true, and-false}
+use mathlib.Core.Path.{_≡_, refl, _∙_}
+use mathlib.Core.Bool.{true, false, _&&_, and-true, and-false}
 use mathlib.Core.List.{List, [], _∷_}
 use lib.Dec.{eqb, leb, ltb}
 use lib.ListN.{length, getD, drop, drop-of-length-le}
@@ -11,7 +11,6 @@ use lib.Seq.{drop-cons}
 use borrow.Author.Tests.{eq-eqb, ne-eqb, lt-ltb, le-leb, lt-leb}
 use Rattle.rules.specs.Lists.{first, every, all-of}
 use Rattle.rules.specs.Store.{limit}
-use Rattle.text.specs.declared.Number.{Number}
 use Rattle.text.specs.declared.Number.the-variants.{Value, Bad}
 use Rattle.text.specs.Reading.{is-digit, value-from, value, is-decimal, number-in}
 use Rattle.text.specs.Promised.{Until}
@@ -101,8 +100,8 @@ module _ (field : List ℕ) (v i : ℕ) (h : Counting field v i) where
         unfolding value-from
         gives-on = rw left at (h .gives)
 
-        pub too-large : limit < 10 * v + (b - 48) → Bad ≡ number-in field
-        too-large k =
+        pub too-large : (m : ℕ) → limit ≤ m → m < 10 * v + (b - 48) → Bad ≡ number-in field
+        too-large m l k =
             let g = value-grows (10 * v + (b - 48)) (drop (suc i) field) in
             let t : leb (value field) limit ≡ false = lt-leb (value field) limit (omega (arith, gives-on)) in
             no-number field (decides-on ∙ rw t (and-false (every is-digit (drop (suc i) field))))

@@ -1,19 +1,17 @@
 -- Reading a line field by field, and lines one after the other. Assumes nothing.
-use Prim.Native.Nat.{ℕ, zero, suc, _+_, _*_, _-_, _≤_, _<_}
+use Prim.Native.Nat.{ℕ, zero, suc, _+_, _-_, _≤_, _<_}
 use native.Mathlib.Omega.{arith}
-use native.Mathlib.Nat.{add-sub-cancel-left}
-use native.Mathlib.Numerals.{add-one}
-use mathlib.Core.Path.{_≡_, refl, sym, _∙_, ap}
+use mathlib.Core.Path.{_≡_, refl, sym, _∙_}
 use mathlib.Core.Bool.{Bool, true, false, _&&_, cond, and-true, and-false}
-use mathlib.Core.List.{List, [], _∷_, _++_}
+use mathlib.Core.List.{List, [], _∷_}
 use lib.Dec.{eqb, eqb·suc-suc}
-use lib.ListN.{length, take, drop, set, length-drop, drop-of-length-le}
+use lib.ListN.{length, take, drop, set}
 use borrow.Author.Tests.{eqb-true, eqb-false, eq-eqb, ne-eqb}
-use lib.Seq.{drop-drop, take-all, take-nil}
-use Rattle.rules.specs.Lists.{first, every, all-of}
+use lib.Seq.{take-nil}
+use Rattle.rules.specs.Lists.{every, all-of}
 use Rattle.text.specs.declared.Number.{Number}
 use Rattle.text.specs.declared.Number.the-variants.{Value, Bad}
-use Rattle.text.specs.Reading.{onto, parts, space, newline, fields, lines, is-decimal, value, number-in, all-decimals, in-form, words-before, words-read}
+use Rattle.text.specs.Reading.{onto, parts, space, fields, is-decimal, value, number-in, all-decimals, in-form, words-before, words-read}
 use Rattle.text.specs.Laid.{Laid, Partly, none-yet, one-more, all-laid, one-laid, laid-length}
 use Rattle.text.specs.Promised.{Until, LineRead}
 use Rattle.text.specs.Cutting.{more-fields, last-field}

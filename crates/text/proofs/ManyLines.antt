@@ -7,10 +7,10 @@ use mathlib.Core.Bool.{Bool, true, false, not}
 use mathlib.Core.List.{List, [], _∷_, _++_, append-nil}
 use lib.ListN.{length, take, drop, length-drop, drop-of-length-le}
 use lib.Seq.{length-take-le}
-use borrow.Author.Tests.{not-true, not-false, le-ltb}
+use borrow.Author.Tests.{not-true, not-false}
 use borrow.Rule.Slice.PartMut.{putMid}
 use Rattle.text.specs.declared.StepCount.{StepCount}
-use Rattle.text.specs.Reading.{parts, newline, lines, is-step, words-read, words-in, good, has-bad, all-read}
+use Rattle.text.specs.Reading.{parts, newline, lines, is-step, words-read, good, has-bad, all-read}
 use Rattle.text.specs.Laid.{Laid, Partly, none-yet, one-more, all-laid, laid-length, lent-laid}
 use Rattle.text.specs.Laws.{line-long, words-same, words-many, none-good, bad-good, bad-has, bad-read, step-good, step-has, step-read}
 use Rattle.text.specs.Promised.{Until, LineRead, StepsRead}

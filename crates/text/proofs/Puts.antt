@@ -2,7 +2,7 @@
 use Prim.Native.Nat.{ℕ, zero, suc, _+_, _*_, _-_, _/_, _%_, _≤_, _<_}
 use native.Mathlib.Omega.{arith}
 use native.Mathlib.Numerals.{add-one}
-use mathlib.Core.Path.{_≡_, refl, sym, _∙_, ap}
+use mathlib.Core.Path.{_≡_, refl, _∙_}
 use mathlib.Core.List.{List, [], _∷_, _++_, append-assoc}
 use lib.ListN.{length, getD, drop, set, length-set, length-drop, drop-of-length-le}
 use lib.Seq.{drop-cons}
@@ -10,7 +10,7 @@ use mir.Syntax.{w32}
 use mir.Val.{Fits}
 use Rattle.text.specs.Printing.{bytes, ended, decimal, line, start-line, bad-line, too-long}
 use Rattle.text.specs.Laid.{Laid, Partly, none-yet, one-more, all-laid, one-laid, both-laid, laid-length}
-use Rattle.text.specs.Decimals.{decimal-small, decimal-large, ten-digits, nine-digits}
+use Rattle.text.specs.Decimals.{decimal-small, decimal-large, nine-digits}
 
 -- ---- bytes
 pub bytes-none : (bytes out : List ℕ) (at : ℕ) → at + length bytes ≤ length out → Partly out at bytes out (at + 0) bytes

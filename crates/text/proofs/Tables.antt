@@ -1,17 +1,17 @@
 -- Laying out a line for each step, and a line for each row. Assumes nothing.
-use Prim.Native.Nat.{ℕ, zero, suc, _+_, _*_, _-_, _≤_, _<_}
+use Prim.Native.Nat.{ℕ, suc, _+_, _*_, _-_, _≤_, _<_}
 use native.Mathlib.Omega.{arith}
 use native.Mathlib.Nat.{mul-zero, mul-suc, add-sub-cancel-left}
 use native.Mathlib.Numerals.{add-one}
-use mathlib.Core.Path.{_≡_, refl, sym, _∙_, ap}
-use mathlib.Core.List.{List, [], _∷_, _++_, flatMap}
+use mathlib.Core.Path.{_≡_, _∙_, ap}
+use mathlib.Core.List.{List, [], _∷_, flatMap}
 use lib.ListN.{length, getD, take, drop, length-drop}
 use lib.Seq.{drop-drop, getD-drop, getD-take, length-take-le}
 use Rattle.rules.specs.Lists.{cut}
 use Rattle.rules.specs.laws.Places.{cut-length}
 use Rattle.rules.specs.laws.Splice.{lent}
 use Rattle.text.specs.Printing.{bytes, decimal, line, step-lines, board-title, board-lines}
-use Rattle.text.specs.Laid.{Laid, Partly, none-yet, one-more, all-laid, both-laid, laid-length}
+use Rattle.text.specs.Laid.{Laid, Partly, none-yet, one-more, all-laid, both-laid}
 
 -- ---- parts of one size, from the i-th on
 parts-all : (n size : ℕ) (ws : List ℕ) → cut (n - 0) size (drop (size * 0) ws) ≡ cut n size ws

@@ -2,13 +2,12 @@
 use Prim.Native.Nat.{ℕ, zero, suc, _+_, _*_, _-_, _/_, _%_, _^_, _≤_, _<_}
 use native.Mathlib.Omega.{arith}
 use native.Mathlib.Nat.{div-lt-iff-lt-mul, pow-suc}
-use mathlib.Core.Path.{_≡_, refl, sym, _∙_, ap}
-use mathlib.Core.Bool.{Bool, true, false, cond, _&&_}
+use mathlib.Core.Path.{_≡_, refl, _∙_, ap}
+use mathlib.Core.Bool.{Bool, true, false}
 use mathlib.Core.List.{List, [], _∷_, _++_}
-use lib.Dec.{ltb, leb}
+use lib.Dec.{ltb}
 use lib.ListN.{length, length-append}
 use borrow.Author.Tests.{ltb-true, ltb-false, lt-ltb, le-ltb, le-leb}
-use Rattle.rules.specs.Lists.{every, all-of}
 use Rattle.rules.specs.Store.{limit}
 use Rattle.rules.specs.laws.All.{All, none, more, all-append, all-every}
 use Rattle.rules.specs.laws.Tests.{either, each-all-of, _also_}
@@ -45,7 +44,7 @@ decimal-large n h =
     let e : digits (suc n) n ≡ digits n (n / 10) ++ ((48 + n % 10) ∷ []) = rw (le-ltb n 10 h) in
     e ∙ ap (λ ds. ds ++ ((48 + n % 10) ∷ [])) (digits-same n (suc (n / 10)) (n / 10) (omega arith) (omega arith))
 
--- ---- a number of 32 bits has at most ten digits
+-- ---- how many digits there are: the tenth of a number of 32 bits has at most nine
 decimal-long : (m n : ℕ) → n < 10 ^ suc m → length (decimal n) ≤ suc m
 decimal-long zero n h = let s : n < 10 = omega arith in rw (decimal-small n s) (omega arith)
 decimal-long (suc m) n h = go (ltb n 10) refl (decimal-long m (n / 10) (div-lt-iff-lt-mul {k = 10} (omega arith) .1 (rw (pow-suc 10 (suc m)) at h)))
@@ -53,9 +52,6 @@ decimal-long (suc m) n h = go (ltb n 10) refl (decimal-long m (n / 10) (div-lt-i
     go : (t : Bool) → ltb n 10 ≡ t → length (decimal (n / 10)) ≤ suc m → length (decimal n) ≤ suc (suc m)
     go true e k = rw (decimal-small n (ltb-true n 10 e)) (omega arith)
     go false e k = rw (decimal-large n (ltb-false n 10 e)) (simp length-append (omega arith))
-
-pub ten-digits : (n : ℕ) → n < 4_294_967_296 → length (decimal n) ≤ 10
-ten-digits n h = decimal-long 9 n (omega arith)
 
 pub nine-digits : (n : ℕ) → n < 4_294_967_296 → length (decimal (n / 10)) ≤ 9
 nine-digits n h = decimal-long 8 (n / 10) (omega arith)

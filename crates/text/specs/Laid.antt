@@ -1,14 +1,13 @@
 -- Words or bytes written into a lent slice at a place, in one piece or piece by piece.
-use Prim.Native.Nat.{ℕ, suc, _+_, _-_, _≤_, _<_}
+use Prim.Native.Nat.{ℕ, _+_, _-_, _≤_, _<_}
 use native.Mathlib.Omega.{arith}
-use native.Mathlib.Nat.{add-assoc}
 use native.Mathlib.Numerals.{add-one}
-use mathlib.Core.Path.{_≡_, refl, sym, _∙_, ap, ap₂}
+use mathlib.Core.Path.{_≡_, refl, sym, _∙_, ap}
 use mathlib.Core.List.{List, [], _∷_, _++_, append-assoc, append-nil}
 use lib.ListN.{length, take, drop, set, take-append-drop, length-append, length-drop}
-use lib.Seq.{set-split, drop-drop, drop-at, drop-append-le, take-append-le, length-take-le, drop-length}
+use lib.Seq.{set-split, drop-drop, drop-at, drop-append-le, length-take-le}
 use borrow.Rule.Slice.PartMut.{putMid}
-use Rattle.rules.specs.laws.Splice.{splice, splice-length, splice-front, lent-back}
+use Rattle.rules.specs.laws.Splice.{splice, splice-length, splice-front}
 
 -- `text` stands at `at` in a slice that held `out` and now holds `after`; `to` is the place behind it
 pub record Laid (out : List ℕ) (at : ℕ) (text after : List ℕ) (to : ℕ) : Type 0 where
@@ -47,7 +46,7 @@ module _ {out : List ℕ} {at : ℕ} {xs mid : List ℕ} {to : ℕ} (l : Laid ou
       sym (drop-drop (length ys) to mid) ∙ ap (drop (length ys)) behind ∙ drop-drop (length ys) (at + length xs) out ∙ ap (λ k. drop k out) (ap (λ k. k + length ys) (sym (l .ends)) ∙ sym n) in
       record {
         room = omega (arith, m .room, laid-length l);
-        written = m .written ∙ rw (front, d, append-assoc, append-assoc);
+        written = m .written ∙ rw (front, d) (simp append-assoc);
         ends = m .ends ∙ sym n;
       }
 

@@ -1,14 +1,14 @@
 -- Laws of lines that are in form, and of lines of steps.
-use Prim.Native.Nat.{ℕ, zero, suc, _+_, _*_, _≤_, _<_, min}
+use Prim.Native.Nat.{ℕ, suc, _+_, _*_, _≤_, min}
 use native.Mathlib.Omega.{arith}
 use mathlib.Core.Path.{_≡_, refl, sym, _∙_, ap, ap₂}
-use mathlib.Core.Bool.{Bool, true, false, not, _&&_, cond}
+use mathlib.Core.Bool.{Bool, true, false, cond}
 use mathlib.Core.List.{List, [], _∷_, _++_, map, map-id, flatMap, append-nil}
-use lib.Dec.{eqb, ltb, leb·suc-suc}
+use lib.Dec.{eqb, leb·suc-suc}
 use lib.ListN.{length, take, length-map, length-take}
 use lib.Seq.{take-all, take-append-add, length-take-le}
 use borrow.Author.Tests.{eqb-true, ltb-true, lt-ltb}
-use Rattle.rules.specs.Lists.{first, every, all-of, cut}
+use Rattle.rules.specs.Lists.{first, every, cut}
 use Rattle.rules.specs.laws.All.{All, none, more}
 use Rattle.rules.specs.laws.Tests.{each, and-left, and-right}
 use Rattle.rules.specs.laws.Words.{flat-length, cut-flat}

@@ -6,9 +6,6 @@ use mathlib.Core.Bool.{cond}
 use mathlib.Core.List.{List, [], _∷_, _++_, flatMap}
 use lib.Dec.{ltb}
 use lib.ListN.{length, getD, drop}
-use Rattle.rules.specs.Lists.{from, keep}
-use Rattle.rules.specs.Store.{Store, Board, row-words, board-at}
-use Rattle.rules.specs.Boards.{is-open}
 use Rattle.text.specs.Reading.{newline, space}
 
 -- the bytes of a text

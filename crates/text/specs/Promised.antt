@@ -33,5 +33,5 @@ pub record StepsRead (ls : List (List ℕ)) (out : List ℕ) (r : StepCount) (af
 pub steps-back : (ls : List (List ℕ)) (out : List ℕ) (r : StepCount) (after : List ℕ) → StepsRead ls out r after → cut (r .count) 6 (take (6 * r .count) after) ≡ steps-in ls
 steps-back ls out r after s =
     let first : take (6 * good ls) after ≡ flatMap (λ s. s) (steps-in ls) =
-        rw (s .read .written) (take-append-le (6 * good ls) (all-read ls) _ (words-enough ls)) ∙ read-first ls in
+    rw (s .read .written) (take-append-le (6 * good ls) (all-read ls) _ (words-enough ls)) ∙ read-first ls in
     rw (s .counted, first) (steps-cut ls)

@@ -1,11 +1,10 @@
 // The program's text: reading lines of decimals, and laying out what is printed.
 ghost use mathlib.Core.Path.{_≡_};
 ghost use mathlib.Core.List.{flatMap};
-ghost use Prim.Native.Nat.{_+_, _*_, _≤_, _<_};
-ghost use lib.Dec.{eqb};
+ghost use Prim.Native.Nat.{_+_, _*_, _≤_};
 ghost use lib.ListN.{length, drop};
 ghost use Rattle.rules.specs.Lists.{cut};
-ghost use Rattle.text.specs.Reading.{number-in, in-form, words-read, lines};
+ghost use Rattle.text.specs.Reading.{number-in, lines};
 ghost use Rattle.text.specs.Laid.{Laid};
 ghost use Rattle.text.specs.Printing as spec;
 ghost use Rattle.text.specs.Promised.{Until, LineRead, StepsRead};

@@ -3,7 +3,7 @@ use Prim.Native.Nat.{_-_, _≤_}
 use mathlib.Core.Path.{_≡_}
 use lib.ListN.{length}
 use borrow.Author.Needs.{needs}
-use Rattle.text.proofs.Lines.{Scanning, scanning-all, now-long, full, stops, ends, goes-on}
+use Rattle.text.proofs.Lines.{Scanning, scanning-all, full, stops, ends, goes-on}
 use Rattle.text.proofs.numbers.Statement.{statement}
 use Rattle.text.proofs.numbers.Tie as tie
 
