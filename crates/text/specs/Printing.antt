@@ -16,7 +16,7 @@ bytes-from (suc n) s i = code (charAt s i) ∷ bytes-from n s (suc i)
 abbrev pub bytes : String → List ℕ
 bytes s = bytes-from (len s) s 0
 
--- ---- a decimal, without leading zeros: n itself has no more digits than one more than n
+-- ---- a decimal, without leading zeros, in at most so many turns; one more than n are always enough
 unfoldable pub digits : ℕ → ℕ → List ℕ
 digits zero n = []
 digits (suc most) n = let before = digits most (n / 10) in cond (ltb n 10) ((48 + n) ∷ []) (before ++ ((48 + n % 10) ∷ []))

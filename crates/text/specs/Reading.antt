@@ -63,7 +63,7 @@ in-form n line = all-decimals n (fields line)
 unfoldable pub words-in : List ℕ → List ℕ
 words-in line = map value (fields line)
 
--- the words before the first field that is no decimal, n at most
+-- the words before the first field that is no decimal; of a line, n at most
 unfoldable pub words-before : List (List ℕ) → List ℕ
 words-before [] = []
 words-before (f ∷ fs) = let later = words-before fs in cond (is-decimal f) (value f ∷ later) []

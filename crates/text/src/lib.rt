@@ -195,7 +195,7 @@ pub fn put_too_long(out: &mut [u8], at: usize) -> usize
     put(b"too long\n", out, at)
 }
 
-// What n steps, of six words each, and their answers, of two, are told as.
+// A line for each of n steps, of six words, with its answer, of two: its kind, its number and its count.
 pub fn put_answers(steps: &[u32], answers: &[u32], n: usize, out: &mut [u8], at: usize) -> usize
     requires { ⌜ (length (now steps) ≡ 6 * n) × (length (now answers) ≡ 2 * n) ⌝ }
     requires { ⌜ at + 33 * n ≤ length (now out) ⌝ }
