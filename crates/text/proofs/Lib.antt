@@ -1,0 +1,5 @@
+pub mod Fields
+pub mod Lines
+pub mod ManyLines
+pub mod Puts
+pub mod Tables
