@@ -4,7 +4,7 @@ use mathlib.Core.Path.{_≡_}
 use lib.ListN.{length}
 use borrow.Author.Needs.{needs}
 use Rattle.page.specs.Struct.{contents}
-use Rattle.page.proofs.Words.{length-mapped}
+use Rattle.page.specs.Laws.{length-mapped}
 use Rattle.parts.proofs.Memo.{Lowering, lowering-all, lowering-lent, lowering-on, lowering-end}
 use Rattle.parts.proofs.lower_all.Statement.{statement}
 use Rattle.parts.proofs.lower_all.Tie as tie
