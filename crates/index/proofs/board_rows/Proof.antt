@@ -1,5 +1,6 @@
 -- `index::board_rows` meets its contract. Assumes nothing.
 use borrow.Author.Needs.{needs}
+use Rattle.query.specs.Keys.{searchable-placed}
 use Rattle.index.proofs.Calls.{no-rows, rows-searchable, rows-inside, rows-read}
 use Rattle.index.proofs.board_rows.Statement.{statement}
 use Rattle.index.proofs.board_rows.Tie as tie
@@ -13,7 +14,7 @@ board-rows-spec =
     (λ c. search needs)
     (λ c. search needs)
     (λ c. search (needs, no-rows))
-    (λ c κs. (search (needs, rows-searchable), search (needs, rows-inside)))
+    (λ c κs. (search (needs, searchable-placed, rows-searchable), search (needs, rows-inside)))
     (λ c. search needs)
     (λ c. search needs)
     (λ c. search needs)
