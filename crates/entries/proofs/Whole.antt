@@ -11,12 +11,11 @@ use lib.ListN.{length, getD, take, drop}
 use borrow.Author.Tests.{not-true, not-false, le-leb, lt-leb}
 use Rattle.rules.specs.declared.Stamp.{Stamp}
 use Rattle.rules.specs.Lists.{all-of, every, distinct}
-use Rattle.rules.specs.Store.{stamp, pages-of, memo-words, memo-start, boards-start, store-length, store-of}
+use Rattle.rules.specs.Store.{stamp, pages-of, memo-words, store-length, store-of}
 use Rattle.rules.specs.Live.{held-count}
 use Rattle.rules.specs.laws.Memo.{in-order}
 use Rattle.rules.specs.laws.Words.{words-length}
-use Rattle.rules.specs.laws.Parts.{memo-there}
-use Rattle.memo.specs.Slots.{slots-in}
+use Rattle.memo.specs.Slots.{slots-in, HoldsMemo}
 use Rattle.memo.specs.Laws.{memo-given, memo-slots}
 use Rattle.page.specs.Laws.{pages-length}
 use Rattle.theorems.specs.Leaves.{marked}
@@ -38,6 +37,16 @@ module _ (w : List ℕ) (T : Trusted w) where
   unfolding store-length
   trusted-long = omega (arith, whole)
 
+  pub memo-held : HoldsMemo w
+  memo-held =
+      record {
+        written = T .tidy;
+        fits = given-fits _ (T .given);
+        pages-most = T .given .sizes .pages-most;
+        slots-most = T .given .sizes .slots-most;
+        memo = T .given .memo;
+      }
+
   module _ (p : ℕ) (e : p ≡ getD w 5 0) where
     page-count : p ≡ length (store-of w .pages)
     unfolding store-of
@@ -57,34 +66,6 @@ module _ (w : List ℕ) (T : Trusted w) where
     unfolding store-of
     so-known next q =
         record { trusted = T; pages-many = page-count; pages-most = pages-few; long = pages-inside; next-is = q }
-
-    module _ (k : ℕ) (f : k ≡ getD w 7 0) where
-      slot-count : k ≡ store-of w .slots
-      unfolding store-of
-      slot-count = f
-
-      pub slots-few : k ≤ 1_024
-      slots-few = omega (arith, slot-count, T .given .sizes .slots-most)
-
-      module _ (a b : ℕ) (g : a ≡ memo-start p) (h : b ≡ boards-start p k) where
-        pub part-ordered : a ≤ b
-        unfolding memo-start boards-start
-        part-ordered = omega arith
-
-        pub part-inside : b ≤ length w
-        unfolding boards-start store-length
-        part-inside = omega (arith, whole, page-count, slot-count)
-
-        pub part-fits : Fits w64 (a * 4)
-        unfolding memo-start
-        part-fits = record { fits = omega (arith, pages-few) }
-
-        pub part-is-memo : take (b - a) (drop a w) ≡ memo-words (store-of w .slots) (store-of w .memo)
-        unfolding memo-start boards-start
-        part-is-memo =
-            let z : b - a ≡ 3 * store-of w .slots = omega (arith, slot-count) in
-            let y : a ≡ memo-start (length (store-of w .pages)) = g ∙ ap memo-start page-count in
-            rw (z, y) (rw (T .tidy) at (memo-there (store-of w) (given-fits _ (T .given))))
 
 -- ---- from one pass to the next
 module _ (w : List ℕ) (T : Trusted w) (p : ℕ) (pages : p ≡ getD w 5 0) (next : Stamp) (stamps : next ≡ stamp (getD w 1 0)) where

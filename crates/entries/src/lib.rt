@@ -11,7 +11,7 @@ ghost use mathlib.Core.Bool.{_&&_};
 ghost use Prim.Native.Nat.{_+_, _≤_, _<_};
 ghost use lib.ListN.{length, getD, set, take};
 ghost use Rattle.rules.specs.Lists.{every, distinct};
-ghost use Rattle.rules.specs.Store.{store-of, memo-words};
+ghost use Rattle.rules.specs.Store.{store-of};
 ghost use Rattle.theorems.specs.Leaves.{marked, with-mark};
 ghost use Rattle.memo.specs.Slots.{MemoWords, slots-in};
 ghost use Rattle.page.specs.Struct.{contents};
@@ -340,18 +340,6 @@ fn noted_sound(store: &[u32], memo: &[u32], p: usize, next: Stamp) -> bool
     slots_fine(memo, &counts, next)
 }
 
-// The memo's part of the store.
-fn memo_part(store: &[u32]) -> &[u32]
-    requires { ⌜ Trusted (now store) ⌝ }
-    ensures { λ r. ⌜ now r ≡ memo-words (store-of (now (store .entry)) .slots) (store-of (now (store .entry)) .memo) ⌝ }
-{
-    let p = header::pages(store);
-    let k = header::slots(store);
-    let a = header::memo_start(p);
-    let e = header::boards_start(p, k);
-    &store[a..e]
-}
-
 // Whether held entries are in range and rules 4 to 7 hold; they are counted before any is written to a buffer.
 pub fn entries_sound(store: &[u32]) -> bool
     requires { ⌜ Trusted (now store) ⌝ }
@@ -365,6 +353,6 @@ pub fn entries_sound(store: &[u32]) -> bool
     if 3 * p < page::held_entries(store, p) {
         return false;
     }
-    let memo = memo_part(store);
+    let memo = memo::part(store);
     noted_sound(store, memo, p, next)
 }

@@ -3,7 +3,7 @@ use Prim.Native.Nat.{ℕ, zero, suc}
 use mathlib.Core.Path.{_≡_, sym, _∙_, ap}
 use mathlib.Core.List.{List}
 use Rattle.rules.specs.declared.Window.{Window}
-use Rattle.rules.specs.Calls.{Started, QueryCall, start, query-call, board-test, board-rows}
+use Rattle.rules.specs.Calls.{Started, RunCall, QueryCall, start, run-call, query-call, board-test, board-rows}
 use Rattle.index.specs.declared.Answer.{Answer}
 use Rattle.index.specs.declared.Answer.the-variants.{Listed, Refused}
 
@@ -29,6 +29,10 @@ pub record Answered (call : QueryCall) (r : Answer) (rows : List ℕ) : Type 0 w
 -- ---- two outcomes that a promise allows are equal
 pub start-settled : (p k b : ℕ) (w : List ℕ) (r r′ : ℕ) (v v′ : List ℕ) → start p k b w ≡ record { number = r; store = v } → start p k b w ≡ record { number = r′; store = v′ } → (r ≡ r′) × (v ≡ v′)
 start-settled p k b w r r′ v v′ e f = let g : _≡_ {A = Started} (record { number = r; store = v }) (record { number = r′; store = v′ }) = sym e ∙ f in (ap (λ c. c .number) g, ap (λ c. c .store) g)
+
+pub run-settled : (w steps answers : List ℕ) (r r′ : ℕ) (v v′ a a′ : List ℕ) → run-call w steps answers ≡ record { number = r; store = v; answers = a } → run-call w steps answers ≡ record { number = r′; store = v′; answers = a′ } → (r ≡ r′) × (v ≡ v′) × (a ≡ a′)
+run-settled w steps answers r r′ v v′ a a′ e f =
+    let g : _≡_ {A = RunCall} (record { number = r; store = v; answers = a }) (record { number = r′; store = v′; answers = a′ }) = sym e ∙ f in (ap (λ c. c .number) g, ap (λ c. c .store) g, ap (λ c. c .answers) g)
 
 pub query-settled : (w : List ℕ) (window : Window) (rows : List ℕ) (r r′ : Answer) (v v′ : List ℕ)
     → Answered (query-call w window rows) r v → Answered (query-call w window rows) r′ v′ → (r ≡ r′) × (v ≡ v′)

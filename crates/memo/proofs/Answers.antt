@@ -3,18 +3,21 @@ use Prim.Native.Nat.{ℕ, _+_, _-_, _<_, _≤_}
 use native.Mathlib.Omega.{arith}
 use native.Mathlib.Numerals.{add-one}
 use mathlib.Core.Path.{_≡_, sym, _∙_, ap}
+use mathlib.Core.Bool.{true}
 use mathlib.Core.List.{List}
 use mir.Syntax.{w32}
 use mir.Val.{Fits}
+use lib.Dec.{eqb}
 use lib.ListN.{length}
 use borrow.Author.Tests.{eq-eqb, ne-eqb}
 use Rattle.rules.specs.declared.Train.{Train}
 use Rattle.rules.specs.declared.Stamp.{Stamp}
+use Rattle.rules.specs.declared.Entry.{Entry}
 use Rattle.rules.specs.declared.LookUp.{LookUp}
 use Rattle.rules.specs.declared.LookUp.the-variants.{Absent, Found}
 use Rattle.rules.specs.Lists.{without}
-use Rattle.rules.specs.Store.{limit, memo-words}
-use Rattle.rules.specs.Memo.{slot-inserted, look-up, noted, noted-by, lowered, lowered-by}
+use Rattle.rules.specs.Store.{limit, train-of, memo-words}
+use Rattle.rules.specs.Memo.{slot-inserted, look-up, latest-by, is-latest, noted, noted-by, lowered, lowered-by}
 use Rattle.rules.specs.laws.All.{All, all-at}
 use Rattle.rules.specs.laws.Words.{no-slot}
 use Rattle.rules.specs.laws.Memo.{look-up-says}
@@ -68,3 +71,13 @@ module _ (m : List ℕ) (t : Train) (r : LookUp) (e : r ≡ look-up t (slots-in 
         → m′ ≡ memo-words (room m) (lowered t (slots-in m))
     unfolding lowered lowered-by
     lowered-left h w m′ g = rw (so-found, ne-eqb (old - 1) 0 (omega arith)) (g ∙ memo-put m w place _ so-used)
+
+-- ---- what the look-up's answer says of an entry
+module _ (m : List ℕ) (e : Entry) (r : LookUp) (answer : r ≡ look-up (train-of e) (slots-in m)) where
+  pub absent-latest : r ≡ Absent → true ≡ is-latest (slots-in m) e
+  unfolding is-latest latest-by
+  absent-latest a = rw (← answer, a)
+
+  pub found-latest : (place old : ℕ) (latest : Stamp) → r ≡ Found place latest old → eqb (e .stamp .0) (latest .0) ≡ is-latest (slots-in m) e
+  unfolding is-latest latest-by
+  found-latest place old latest f = rw (← answer, f)

@@ -1,4 +1,5 @@
 -- Laws that the proofs of the functions cite.
+pub mod Lent
 pub mod Words
 pub mod Places
 pub mod Moves

@@ -8,11 +8,12 @@ use lib.Dec.{leb}
 use lib.ListN.{length, getD}
 use Rattle.rules.specs.declared.Train.{Train}
 use Rattle.rules.specs.declared.Stamp.{Stamp}
+use Rattle.rules.specs.declared.Entry.{Entry}
 use Rattle.rules.specs.declared.Slot.{Slot}
 use Rattle.rules.specs.declared.LookUp.{LookUp}
 use Rattle.rules.specs.declared.LookUp.the-variants.{Absent}
 use Rattle.rules.specs.Store.{limit, memo-words, slot-words, slot-of}
-use Rattle.rules.specs.Memo.{look-up, noted, lowered, inspected}
+use Rattle.rules.specs.Memo.{look-up, is-latest, noted, lowered, inspected}
 use Rattle.rules.specs.Views.{MemoInRange}
 use Rattle.rules.specs.laws.All.{All, always}
 use Rattle.rules.specs.laws.Memo.{slot-among}
@@ -65,6 +66,9 @@ module _ (k : ℕ) (ms : List Slot) (r : MemoInRange k ms) (m : List ℕ) (e : m
 
   pub so-looked-up : (t : Train) (l : LookUp) → l ≡ look-up t (slots-in m) → l ≡ look-up t ms
   so-looked-up t l h = rw memo-slots at h
+
+  pub so-latest : (e : Entry) (b : Bool) → b ≡ is-latest (slots-in m) e → b ≡ is-latest ms e
+  so-latest e b h = rw memo-slots at h
 
   pub so-full : (b : Bool) → b ≡ leb (room m) (length (slots-in m)) → b ≡ leb k (length ms)
   so-full b h = rw (memo-room, memo-slots) at h

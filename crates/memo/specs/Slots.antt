@@ -1,5 +1,5 @@
 -- The memo's own words: three for each slot that there is room for, the used slots first.
-use Prim.Native.Nat.{ℕ, _*_, _-_, _/_}
+use Prim.Native.Nat.{ℕ, _*_, _-_, _/_, _≤_}
 use mathlib.Core.Path.{_≡_}
 use mathlib.Core.List.{List, map, flatMap}
 use lib.ListN.{length, getD, set}
@@ -8,9 +8,9 @@ use Rattle.rules.specs.declared.Train.{Train}
 use Rattle.rules.specs.declared.Stamp.{Stamp}
 use Rattle.rules.specs.declared.Slot.{Slot}
 use Rattle.rules.specs.Lists.{cut, first}
-use Rattle.rules.specs.Store.{memo-words, slot-of, slot-words, used}
+use Rattle.rules.specs.Store.{memo-words, slot-of, slot-words, used, words, store-of}
 use Rattle.rules.specs.Memo.{inspected}
-use Rattle.rules.specs.laws.Words.{no-slot}
+use Rattle.rules.specs.laws.Words.{Fits, no-slot}
 use Rattle.rules.specs.Views.{MemoInRange}
 
 -- how many slots there is room for
@@ -34,6 +34,14 @@ pub record MemoWords (m : List ℕ) : Type 0 where
   pub whole : Whole m
   pub in-range : MemoInRange (room m) (slots-in m)
   pub written : memo-words (room m) (slots-in m) ≡ m
+
+-- the words are exactly those of a store, and its memo is in range
+pub record HoldsMemo (w : List ℕ) : Type 0 where
+  pub written : words (store-of w) ≡ w
+  pub fits : Fits (store-of w)
+  pub pages-most : length (store-of w .pages) ≤ 192
+  pub slots-most : store-of w .slots ≤ 1_024
+  pub memo : MemoInRange (store-of w .slots) (store-of w .memo)
 
 -- ---- one slot, read and written; past the end there are unused ones
 abbrev pub slot-at : List ℕ → ℕ → Slot

@@ -1,5 +1,6 @@
 // The memo's part of the store, a slice of three words for each slot: which stamp of a train is the latest, and how many old
 // entries of it may be held.
+use rules::Entry;
 use rules::LookUp;
 use rules::Slot;
 use rules::Stamp;
@@ -12,9 +13,21 @@ ghost use Rattle.rules.specs.declared.LookUp.the-variants.{Absent};
 ghost use Rattle.rules.specs.laws.All.{All};
 ghost use Rattle.rules.specs.laws.Words.{no-slot};
 ghost use Rattle.rules.specs.Lists.{without};
-ghost use Rattle.rules.specs.Memo.{look-up, lowered, noted, slot-inserted};
-ghost use Rattle.rules.specs.Store.{limit, memo-words};
-ghost use Rattle.memo.specs.Slots.{Inspected, MemoWords, Whole, place-for, room, slot-at, slots-in, with-slot};
+ghost use Rattle.rules.specs.Memo.{is-latest, look-up, lowered, noted, slot-inserted};
+ghost use Rattle.rules.specs.Store.{limit, memo-words, store-of};
+ghost use Rattle.memo.specs.Slots.{HoldsMemo, Inspected, MemoWords, Whole, place-for, room, slot-at, slots-in, with-slot};
+
+// The memo's part of a store.
+pub fn part(store: &[u32]) -> &[u32]
+    requires { ⌜ HoldsMemo (now store) ⌝ }
+    ensures { λ r. ⌜ now r ≡ memo-words (store-of (now (store .entry)) .slots) (store-of (now (store .entry)) .memo) ⌝ }
+{
+    let p = header::pages(store);
+    let k = header::slots(store);
+    let a = header::memo_start(p);
+    let e = header::boards_start(p, k);
+    &store[a..e]
+}
 
 // What a slot is that no train has.
 fn unused() -> Slot
@@ -92,6 +105,22 @@ pub fn look_up(memo: &[u32], t: Train) -> LookUp
         latest,
         old: s.old,
     }
+}
+
+// Whether no later report or withdrawal of its train makes the entry an old one.
+pub fn is_latest(memo: &[u32], e: Entry) -> bool
+    requires { ⌜ MemoWords (now memo) ⌝ }
+    ensures { λ r. ⌜ r ≡ is-latest (slots-in (now (memo .entry))) e ⌝ }
+{
+    let LookUp::Found {
+        place: _,
+        latest,
+        old: _,
+    } = look_up(memo, Train(e.key))
+    else {
+        return true;
+    };
+    e.stamp.0 == latest.0
 }
 
 // Whether every slot is used: those that are come first, so the last one tells.

@@ -53,7 +53,7 @@ fn write_place(dst: &mut [u32], e: Entry)
 }
 
 // An unused place: zero throughout.
-fn no_place() -> Entry
+pub fn no_place() -> Entry
     ensures { λ r. ⌜ r ≡ rules.no-place ⌝ }
 {
     Entry {

@@ -19,6 +19,7 @@ use Rattle.rules.specs.Sound.{sound-words}
 use Rattle.rules.specs.Views.{InRange, Levelled, Rule3, Rule4, Rule5, sound-holds}
 use Rattle.rules.specs.laws.Tests.{and-left, and-right}
 use Rattle.rules.specs.laws.Lists.{same-words-equal}
+use Rattle.rules.specs.laws.Placed.{Placed, ranges-placed}
 use Rattle.sort.specs.Sorted.{sorted, worked}
 
 -- ---- one key
@@ -95,6 +96,10 @@ sound-searchable w e =
       rule4 = h .rule4;
       rule5 = h .rule5;
     }
+
+-- its parts stand where they should
+pub searchable-placed : (w : List ℕ) → Searchable w → Placed w
+searchable-placed w h = ranges-placed w (h .written) (h .ranges)
 
 -- ---- what a descent leaves: as many keys more, written where there is room
 pub record Written (keys : List ℕ) (n : ℕ) (ks : List ℕ) (r : ℕ) (keys′ : List ℕ) : Type 0 where

@@ -1,7 +1,6 @@
 // The rows of a window: a descent from the root writes a key for each, and the keys, sorted, give the rows by ascending train.
 use page::Page;
 use rules::Entry;
-use rules::LookUp;
 use rules::PageNo;
 use rules::Row;
 use rules::Train;
@@ -12,9 +11,7 @@ ghost use Prim.Native.Nat.{_+_, _*_, _<_, _≤_};
 ghost use lib.ListN.{length, set, take, drop};
 ghost use Rattle.rules.specs.Lists.{put-if};
 ghost use Rattle.rules.specs.Store.{page-at, row-words, store-of};
-ghost use Rattle.rules.specs.Memo as rules;
 ghost use Rattle.page.specs.Struct.{laid-page};
-ghost use Rattle.memo.specs.Slots.{MemoWords, slots-in};
 ghost use Rattle.query.specs.Keys.{key-of, row-of-key, hit, keys-at, Searchable, Written, Found};
 
 // ---- keys
@@ -47,31 +44,13 @@ fn page_of(store: &[u32], at: PageNo) -> Page
     page::page_at(store, header::pages(store), at)
 }
 
-// Whether no later report or withdrawal of its train makes the entry an old one.
-fn is_latest(slots: &[u32], e: Entry) -> bool
-    requires { ⌜ MemoWords (now slots) ⌝ }
-    ensures { λ r. ⌜ r ≡ rules.is-latest (slots-in (now (slots .entry))) e ⌝ }
-{
-    let LookUp::Found {
-        place: _,
-        latest,
-        old: _,
-    } = memo::look_up(slots, Train(e.key))
-    else {
-        return true;
-    };
-    e.stamp.0 == latest.0
-}
-
 // Whether a query lists the entry; its box is tried first, since the memo takes longer.
 fn is_hit(store: &[u32], e: Entry, w: Window) -> bool
     requires { ⌜ Searchable (now store) ⌝ }
     ensures { λ r. ⌜ r ≡ hit (store-of (now (store .entry)) .memo) w e ⌝ }
 {
     if boxes::meets(e.bounds, w) {
-        let from = header::memo_start(header::pages(store));
-        let to = from + 3 * header::slots(store);
-        return is_latest(&store[from..to], e);
+        return memo::is_latest(memo::part(store), e);
     }
     false
 }

@@ -14,6 +14,7 @@ pub mod Counts
 pub mod Words
 pub mod Header
 pub mod Parts
+pub mod Placed
 pub mod Memo
 pub mod Numbers
 pub mod Noting

@@ -22,7 +22,7 @@ use Rattle.theorems.specs.Inspect.{inspect-sound}
 use Rattle.theorems.specs.Clean.{clean-sound}
 
 -- a step in form has one of the kinds 1 to 6
-no-kind : (x : Step) → (1 ≤ x .kind → x .kind ≤ 6 → ⊥) → in-form x ≡ false
+pub no-kind : (x : Step) → (1 ≤ x .kind → x .kind ≤ 6 → ⊥) → in-form x ≡ false
 unfolding in-form one-of
 no-kind x d = rw (other 1 (omega arith) (omega arith), other 2 (omega arith) (omega arith), other 3 (omega arith) (omega arith), other 4 (omega arith) (omega arith), other 5 (omega arith) (omega arith), other 6 (omega arith) (omega arith))
   where

@@ -3,6 +3,7 @@ pub mod TreeSound
 pub mod Leaves
 pub mod tree
 pub mod HeldLeaves
+pub mod ProperBoxes
 pub mod LeafToClean
 pub mod ReportTree
 pub mod CleanTree

@@ -2,42 +2,24 @@
 use Prim.Native.Nat.{ℕ, suc, _+_, _-_, _≤_, _<_}
 use native.Mathlib.Omega.{arith}
 use native.Mathlib.Numerals.{add-one}
-use mathlib.Core.Path.{_≡_, sym, ap, _∙_}
+use mathlib.Core.Path.{_≡_, ap, _∙_}
 use mathlib.Core.List.{List, [], _∷_}
 use lib.ListN.{length, getD, set, drop, length-set}
 use mir.Syntax.{w32}
 use mir.Val.{Fits as Number}
 use Rattle.rules.specs.declared.PageNo.{PageNo}
 use Rattle.rules.specs.declared.Entry.{Entry}
-use Rattle.rules.specs.Store.{Page as Contents, Store, stamp, page-no, free-page, pages-of, words, store-of, limit}
+use Rattle.rules.specs.Store.{Page as Contents, stamp, page-no, free-page, pages-of, words, store-of, limit}
 use Rattle.rules.specs.Tree.{tree-of, with-places, child-place, lowest-free, whole, parted, rooted, put-below, put-at, Written as Result}
 use Rattle.rules.specs.laws.All.{none, more}
-use Rattle.rules.specs.laws.Words.{Fits, fits-read}
-use Rattle.rules.specs.laws.Parts.{with-pages, with-header, root-written, levels-written}
-use Rattle.rules.specs.laws.Header.{root-there, levels-there, pages-there}
+use Rattle.rules.specs.laws.Header.{pages-there}
 use Rattle.page.specs.declared.Page.{Page}
 use Rattle.page.specs.Struct.{laid-page, with-struct, added}
 use Rattle.page.specs.Laws.{laid-added}
 use Rattle.tree.specs.declared.Written.{Written}
 use Rattle.tree.specs.declared.Written.the-variants.{Whole, Parted}
-use Rattle.tree.specs.Putting.{Ready, Wrote, Put, Grown, with-tree, NewRoot, over-root, raised}
-use Rattle.tree.specs.Laws.{ready-words, room, free-read, child-proper, page-put}
-
--- other pages are written, and then another root and number of levels
-grown-from : {p : ℕ} {w : List ℕ} {ps : List Contents} {w₁ : List ℕ} → Wrote p w ps w₁ → (root : PageNo) (levels : ℕ) (w′ : List ℕ) → w′ ≡ set (set w₁ 2 (root .0)) 3 levels
-    → Grown p w (record { root = root; levels = levels; pages = ps }) w′
-grown-from {p} {w} {ps} {w₁} t root levels w′ e =
-    let s : Store = with-pages (store-of w) ps in
-    let r : Store = with-header s (s .next) root (s .levels) in
-    let z : Store = with-header r (r .next) (r .root) levels in
-    let f : Fits s = rw (t .stored) at (t .ready .fits) in
-    let fit : Fits z = record { pages-fit = f .pages-fit; memo-fits = f .memo-fits; slots-used = f .slots-used; boards-fit = f .boards-fit } in
-    let q : w′ ≡ words z = e ∙ rw (t .wrote, ← root-written s root) (sym (levels-written r levels)) in
-    record {
-      wrote = q;
-      stored = rw q (fits-read z fit);
-      ready = rw q (ready-words p z fit (rw (t .stored) at (t .ready .counted)) (t .ready .most) (rw (t .stored) at (t .ready .proper)));
-    }
+use Rattle.tree.specs.Putting.{Ready, Put, Grown, with-tree, NewRoot, over-root, raised}
+use Rattle.tree.specs.Laws.{room, levels-read, root-read, free-read, child-proper, page-put, grown-from, wrote-grown}
 
 empty-inner : (f : Page) → f ≡ laid-page free-page → record { kind = 2; count = f .count; mark = f .mark; places = f .places } ≡ laid-page (record { kind = 2; mark = stamp 0; places = [] })
 unfolding laid-page
@@ -54,27 +36,18 @@ over-made w root q f g h x y ef ex eg ey eh =
     two ∙ rw (ex, ey)
 
 module _ (p : ℕ) (w : List ℕ) (h : Ready p w) where
-  pub header-room : 16 ≤ length w
-  header-room = omega (arith, room p w h)
-
-  levels-read : getD w 3 0 ≡ store-of w .levels
-  levels-read = rw (h .written) at (levels-there (store-of w))
-
-  root-read : page-no (getD w 2 0) ≡ store-of w .root
-  root-read = rw (h .written) at (root-there (store-of w))
-
   -- ---- the new root
   pub root-put : (q r root : PageNo) (g : Page) (w′ : List ℕ) → root ≡ page-no (getD w 2 0) → r ≡ lowest-free (pages-of p (drop 16 w))
       → g ≡ laid-page (over-root (store-of w .pages) root q) → w′ ≡ with-struct w p r g → NewRoot p w q w′ r
   root-put q r root g w′ there free made e =
       record {
-        pages = rw (e, made, there ∙ root-read) (page-put p w h r (over-root (store-of w .pages) (store-of w .root) q) (omega arith) (more (child-proper p w h (store-of w .root)) (more (child-proper p w h q) none)));
+        pages = rw (e, made, there ∙ root-read p w h) (page-put p w h r (over-root (store-of w .pages) (store-of w .root) q) (omega arith) (more (child-proper p w h (store-of w .root)) (more (child-proper p w h q) none)));
         free = free ∙ free-read p w h;
       }
 
   -- ---- words 2 and 3
   pub levels-fit : (n : ℕ) → n ≡ getD w 3 0 → store-of w .levels < limit → Number w32 (n + 1)
-  levels-fit n e k = omega (arith, levels-read)
+  levels-fit n e k = omega (arith, levels-read p w h)
 
   module _ (q r : PageNo) (w₁ : List ℕ) (new : NewRoot p w q w₁ r) where
     pub raise-room : 16 ≤ length w₁
@@ -86,13 +59,13 @@ module _ (p : ℕ) (w : List ℕ) (h : Ready p w) where
     pub raise-made : (w₂ w₃ : List ℕ) (levels : ℕ) → levels ≡ getD w 3 0 → w₂ ≡ set w₁ 2 (r .0) → w₃ ≡ set w₂ 3 (levels + 1) → Grown p w (raised (store-of w) q) w₃
     unfolding rooted
     raise-made w₂ w₃ levels n e₂ e₃ =
-        let e : w₃ ≡ set (set w₁ 2 (r .0)) 3 (suc (store-of w .levels)) = e₃ ∙ rw (e₂, n ∙ levels-read, add-one (store-of w .levels)) in
+        let e : w₃ ≡ set (set w₁ 2 (r .0)) 3 (suc (store-of w .levels)) = e₃ ∙ rw (e₂, n ∙ levels-read p w h, add-one (store-of w .levels)) in
         rw (← new .free) (grown-from (new .pages) r (suc (store-of w .levels)) w₃ e)
 
 -- ---- down from the root
 whole-grown : {p : ℕ} {w : List ℕ} (r : Result) {w₁ : List ℕ} {a : Written} → Put p w r w₁ a → a ≡ Whole → Grown p w (rooted (store-of w .root) (store-of w .levels) r) w₁
 unfolding rooted
-whole-grown (whole ps) put k = record { wrote = put .pages .wrote; stored = put .pages .stored; ready = put .pages .ready }
+whole-grown (whole ps) put k = wrote-grown (put .pages)
 whole-grown (parted ps q) put k = let z : _≡_ {A = ℕ} 0 1 = cc (put .answers) in absurd (omega arith)
 
 parted-grown : {p : ℕ} {w : List ℕ} (r : Result) {w₁ : List ℕ} {a : Written} (q : PageNo) (w₂ : List ℕ) → Put p w r w₁ a → a ≡ Parted q → Grown p w₁ (raised (store-of w₁) q) w₂
@@ -106,9 +79,6 @@ parted-grown (parted ps q′) q w₂ put k t =
       stored = t .stored ∙ ap (λ s. with-tree s (raised s q)) (put .pages .stored);
       ready = t .ready;
     })
-
-pub ready-count : (w : List ℕ) (n : ℕ) → Ready (length (store-of w .pages)) w → n ≡ getD w 5 0 → Ready n w
-ready-count w n h e = rw (e ∙ rw (h .written) at (pages-there (store-of w))) h
 
 module _ (w : List ℕ) (h : Ready (length (store-of w .pages)) w) (p : ℕ) (counted : p ≡ getD w 5 0) (levels level : ℕ) (read : levels ≡ getD w 3 0) where
   pub levels-enough : level ≤ store-of w .levels → level ≤ levels

@@ -2,34 +2,27 @@
 use Prim.Native.Nat.{ℕ, _+_, _*_, _≤_}
 use native.Mathlib.Omega.{arith}
 use mathlib.Core.Path.{_≡_, refl, sym, ap, _∙_}
-use mathlib.Core.List.{List, [], _∷_}
-use lib.ListN.{length, getD, drop, length-set, length-take}
+use mathlib.Core.List.{List}
+use lib.ListN.{length, getD, set, drop, length-set, length-take}
 use Rattle.rules.specs.declared.PageNo.{PageNo}
-use Rattle.rules.specs.declared.Entry.{Entry}
-use Rattle.rules.specs.Boxes.{cover-of}
-use Rattle.rules.specs.Store.{Page as Contents, Store, free-page, page-at, put-page, pages-of, store-length, words, store-of}
-use Rattle.rules.specs.Tree.{its-box, lowest-free, child-place, cover-page}
+use Rattle.rules.specs.Store.{Page as Contents, Store, page-no, free-page, page-at, put-page, pages-of, store-length, words, store-of}
+use Rattle.rules.specs.Tree.{Tree, tree-of, its-box, lowest-free, child-place, cover-page}
 use Rattle.rules.specs.Views.{ProperBox}
 use Rattle.rules.specs.laws.All.{All, none, all-set, all-anywhere}
-use Rattle.rules.specs.laws.Boxes.{cover-of-proper}
+use Rattle.rules.specs.laws.Boxes.{cover-of-all-proper}
 use Rattle.rules.specs.laws.Words.{Fits, words-length, fits-read}
-use Rattle.rules.specs.laws.Parts.{with-pages, fits-page}
+use Rattle.rules.specs.laws.Parts.{with-pages, with-header, fits-page, root-written, levels-written}
+use Rattle.rules.specs.laws.Header.{root-there, levels-there, pages-there}
 use Rattle.page.specs.declared.Page.{Page}
 use Rattle.page.specs.Struct.{contents, laid-page, struct-at, with-struct}
 use Rattle.page.specs.Laws.{laid-contents, laid-places, pages-length, struct-there, struct-written}
-use Rattle.tree.specs.Putting.{ProperPlaces, Ready, Laid, Wrote}
+use Rattle.tree.specs.Putting.{ProperPlaces, Ready, Laid, Wrote, Grown, with-tree}
 
 -- ---- words and back
 pub ready-words : (p : ℕ) (s : Store) → Fits s → length (s .pages) ≡ p → p ≤ 192 → All (λ g. ProperPlaces (g .places)) (s .pages) → Ready p (words s)
 ready-words p s f n m a =
     let e = fits-read s f in
     record { written = ap words e; fits = rw e f; counted = rw e n; most = m; proper = rw e a }
-
--- ---- boxes
-pub cover-proper : (es : List Entry) → ProperPlaces es → ProperBox (cover-of its-box es)
-unfolding cover-of
-cover-proper [] a = omega arith
-cover-proper (e ∷ es) a = cover-of-proper its-box a
 
 -- ---- structs
 -- what a struct that is laid out holds
@@ -55,6 +48,15 @@ module _ (p : ℕ) (w : List ℕ) (h : Ready p w) where
   pub room : 16 + 52 * p ≤ length w
   unfolding store-length
   room = omega (arith, rw (h .written) at (words-length (store-of w) (h .fits)), h .counted)
+
+  pub header-room : 16 ≤ length w
+  header-room = omega (arith, room)
+
+  pub levels-read : getD w 3 0 ≡ store-of w .levels
+  levels-read = rw (h .written) at (levels-there (store-of w))
+
+  pub root-read : page-no (getD w 2 0) ≡ store-of w .root
+  root-read = rw (h .written) at (root-there (store-of w))
 
   pub page-few : (at : PageNo) → length (page-at (store-of w .pages) at .places) ≤ 8
   unfolding page-at
@@ -84,7 +86,11 @@ module _ (p : ℕ) (w : List ℕ) (h : Ready p w) where
 
   pub child-proper : (c : PageNo) → ProperBox (child-place (store-of w .pages) c .bounds)
   unfolding child-place cover-page
-  child-proper c = cover-proper (page-at (store-of w .pages) c .places) (page-proper c)
+  child-proper c = cover-of-all-proper its-box (page-at (store-of w .pages) c .places) (page-proper c)
+
+-- p may be read from the words
+pub ready-count : (w : List ℕ) (n : ℕ) → Ready (length (store-of w .pages)) w → n ≡ getD w 5 0 → Ready n w
+ready-count w n h e = rw (e ∙ rw (h .written) at (pages-there (store-of w))) h
 
 -- ---- written
 -- a page is replaced
@@ -113,3 +119,39 @@ wrote-then {ps′ = ps′} a b =
 
 pub wrote-pages : {p : ℕ} {w : List ℕ} {ps : List Contents} {w′ : List ℕ} → Wrote p w ps w′ → store-of w′ .pages ≡ ps
 wrote-pages a = ap (λ s. s .pages) (a .stored)
+
+-- other pages are written, and then another root and number of levels
+pub grown-from : {p : ℕ} {w : List ℕ} {ps : List Contents} {w₁ : List ℕ} → Wrote p w ps w₁ → (root : PageNo) (levels : ℕ) (w′ : List ℕ) → w′ ≡ set (set w₁ 2 (root .0)) 3 levels
+    → Grown p w (record { root = root; levels = levels; pages = ps }) w′
+grown-from {p} {w} {ps} {w₁} t root levels w′ e =
+    let s : Store = with-pages (store-of w) ps in
+    let r : Store = with-header s (s .next) root (s .levels) in
+    let z : Store = with-header r (r .next) (r .root) levels in
+    let f : Fits s = rw (t .stored) at (t .ready .fits) in
+    let fit : Fits z = record { pages-fit = f .pages-fit; memo-fits = f .memo-fits; slots-used = f .slots-used; boards-fit = f .boards-fit } in
+    let q : w′ ≡ words z = e ∙ rw (t .wrote, ← root-written s root) (sym (levels-written r levels)) in
+    record {
+      wrote = q;
+      stored = rw q (fits-read z fit);
+      ready = rw q (ready-words p z fit (rw (t .stored) at (t .ready .counted)) (t .ready .most) (rw (t .stored) at (t .ready .proper)));
+    }
+
+-- the words of a store with another tree, and again with another
+pub grown-then : {p : ℕ} {w : List ℕ} {t : Tree} {w′ : List ℕ} {t′ : Tree} {w″ : List ℕ} → Grown p w t w′ → Grown p w′ t′ w″ → Grown p w t′ w″
+grown-then {t′ = t′} a b =
+    record {
+      wrote = b .wrote ∙ ap (λ s. words (with-tree s t′)) (a .stored);
+      stored = b .stored ∙ ap (λ s. with-tree s t′) (a .stored);
+      ready = b .ready;
+    }
+
+pub grown-tree : {p : ℕ} {w : List ℕ} {t : Tree} {w′ : List ℕ} → Grown p w t w′ → tree-of (store-of w′) ≡ t
+grown-tree a = ap tree-of (a .stored)
+
+-- only the pages are others
+pub wrote-grown : {p : ℕ} {w : List ℕ} {ps : List Contents} {w′ : List ℕ} → Wrote p w ps w′ → Grown p w (record { root = store-of w .root; levels = store-of w .levels; pages = ps }) w′
+wrote-grown a = record { wrote = a .wrote; stored = a .stored; ready = a .ready }
+
+-- nothing has changed
+pub grown-same : {p : ℕ} {w : List ℕ} → Ready p w → Grown p w (tree-of (store-of w)) w
+grown-same h = record { wrote = sym (h .written); stored = refl; ready = h }

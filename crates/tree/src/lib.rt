@@ -124,7 +124,7 @@ fn settle(store: &mut [u32], p: usize, at: PageNo, g: Page, e: Entry) -> Written
 // ---- from page to child
 
 // The place of page `at` in its parent, with the box that covers the page's places as they are now.
-fn child_place(store: &[u32], p: usize, at: PageNo) -> Entry
+pub fn child_place(store: &[u32], p: usize, at: PageNo) -> Entry
     requires { ⌜ Ready p (now store) ⌝ }
     ensures { λ r. ⌜ r ≡ tree.child-place (rules.store-of (now (store .entry)) .pages) at ⌝ }
 {

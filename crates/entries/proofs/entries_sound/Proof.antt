@@ -1,6 +1,6 @@
 -- `entries::entries_sound` meets its contract, each way out by what the passes decide.
 use borrow.Author.Needs.{needs}
-use Rattle.entries.proofs.Whole.{trusted-long, pages-few, pages-inside, thrice-fits, so-known, so-passing, marks-broken, too-many, by-noted}
+use Rattle.entries.proofs.Whole.{trusted-long, memo-held, pages-few, pages-inside, thrice-fits, so-known, so-passing, marks-broken, too-many, by-noted}
 use Rattle.entries.proofs.entries_sound.Statement.{statement}
 use Rattle.entries.proofs.entries_sound.Tie as tie
 
@@ -15,6 +15,6 @@ entries-sound-spec =
     (λ c. search (needs, thrice-fits))
     (λ c κs. search (needs, pages-few, pages-inside))
     (λ c. search (needs, too-many))
-    (λ c κs. search needs)
+    (λ c κs. search (needs, memo-held))
     (λ c κs. search (needs, so-passing))
     (λ c. search (needs, by-noted)))

@@ -54,6 +54,12 @@ module _ {A : Type 0} (f : A → Box) where
   cover-of-proper (more h none) = h
   cover-of-proper (more h (more k a)) = cover-proper _ _ h (cover-of-proper (more k a))
 
+  -- and of none
+  pub cover-of-all-proper : (es : List A) → All (λ e. ProperBox (f e)) es → ProperBox (cover-of f es)
+  unfolding cover-of
+  cover-of-all-proper [] a = omega arith
+  cover-of-all-proper (e ∷ es) a = cover-of-proper a
+
   pub within-cover-of : (es : List A) → All (λ e. Within (f e) (cover-of f es)) es
   unfolding cover-of
   within-cover-of [] = none

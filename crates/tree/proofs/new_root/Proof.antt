@@ -1,7 +1,7 @@
 -- `tree::new_root` meets its contract. Assumes nothing.
 use borrow.Author.Needs.{needs}
-use Rattle.tree.specs.Laws.{room}
-use Rattle.tree.proofs.Root.{header-room, root-put}
+use Rattle.tree.specs.Laws.{room, header-room}
+use Rattle.tree.proofs.Root.{root-put}
 use Rattle.tree.proofs.new_root.Statement.{statement}
 use Rattle.tree.proofs.new_root.Tie as tie
 

@@ -1,6 +1,7 @@
 -- `tree::put_at` meets its contract. Assumes nothing.
 use borrow.Author.Needs.{needs}
-use Rattle.tree.proofs.Root.{header-room, ready-count, levels-enough, levels-kept, put-whole, put-parted}
+use Rattle.tree.specs.Laws.{header-room, ready-count}
+use Rattle.tree.proofs.Root.{levels-enough, levels-kept, put-whole, put-parted}
 use Rattle.tree.proofs.put_at.Statement.{statement}
 use Rattle.tree.proofs.put_at.Tie as tie
 

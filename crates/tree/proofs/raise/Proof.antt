@@ -1,6 +1,7 @@
 -- `tree::raise` meets its contract. Assumes nothing.
 use borrow.Author.Needs.{needs}
-use Rattle.tree.proofs.Root.{header-room, levels-fit, raise-room, raise-room-2, raise-made}
+use Rattle.tree.specs.Laws.{header-room}
+use Rattle.tree.proofs.Root.{levels-fit, raise-room, raise-room-2, raise-made}
 use Rattle.tree.proofs.raise.Statement.{statement}
 use Rattle.tree.proofs.raise.Tie as tie
 

@@ -1,8 +1,8 @@
--- `query::is_latest` meets its contract, by what the look-up answers. Assumes nothing.
+-- `memo::is_latest` meets its contract, by what the look-up answers. Assumes nothing.
 use borrow.Author.Needs.{needs}
-use Rattle.query.proofs.Lent.{absent-latest, found-latest}
-use Rattle.query.proofs.is_latest.Statement.{statement}
-use Rattle.query.proofs.is_latest.Tie as tie
+use Rattle.memo.proofs.Answers.{absent-latest, found-latest}
+use Rattle.memo.proofs.is_latest.Statement.{statement}
+use Rattle.memo.proofs.is_latest.Tie as tie
 
 pub is-latest-spec : {M : Type 1} → statement M
 is-latest-spec =

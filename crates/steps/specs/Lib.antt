@@ -1,0 +1,3 @@
+-- What a step asks of the lent words, what it leaves, and what each kind can be refused with.
+pub mod Refusals
+pub mod Stepping
