@@ -18,9 +18,10 @@ use Rattle.rules.specs.Boards.{is-open}
 use Rattle.rules.specs.Numbers.{Refusal, first-met}
 use Rattle.rules.specs.Calls.{store-tests, query-number, queried-by, query-call, board-test, board-rows}
 use Rattle.rules.specs.laws.Numbers.{Numbered, unmet, met-first, none-met}
-use Rattle.query.specs.Keys.{row-of-key, Searchable, sound-searchable, Found}
+use Rattle.query.specs.Keys.{row-of-key, Searchable, sound-searchable, searchable-placed, Found}
 use Rattle.query.specs.Rows.{answer-written}
-use Rattle.watch.specs.Lent.{BoardAt, boards-count}
+use Rattle.rules.specs.laws.Placed.{Placed, boards-count}
+use Rattle.parts.specs.BoardAt.{BoardAt}
 use Rattle.index.specs.declared.Answer.the-variants.{Listed, Refused}
 use Rattle.index.specs.Answers.{Answered}
 use Rattle.index.specs.declared.Part.{Part}
@@ -41,6 +42,9 @@ module _ (v : List ℕ) (number : ℕ) (judged : number ≡ first-met (store-tes
   pub searchable : number ≡ 0 → Searchable v
   unfolding store-tests
   searchable e = sound-searchable v (not-false _ (unmet (store-tests v) numbered (sym judged ∙ e) .1 .1 .1 .0))
+
+  pub placed : number ≡ 0 → Placed v
+  placed e = searchable-placed v (searchable e)
 
   -- ---- a query
   module _ (w : Window) (rows : List ℕ) where
@@ -83,11 +87,11 @@ module _ (v : List ℕ) (number : ℕ) (judged : number ≡ first-met (store-tes
     module _ (e : number ≡ 0) (n : ℕ) (boards : n ≡ getD v 9 0) where
       pub no-board : n ≤ i → 9 ≡ board-test v i
       unfolding board-test first-met
-      no-board h = sym (passed e _ ∙ rw (le-leb (length (store-of v .boards)) i (omega (arith, boards-count v (searchable e) n boards))))
+      no-board h = sym (passed e _ ∙ rw (le-leb (length (store-of v .boards)) i (omega (arith, boards-count v (placed e) n boards))))
 
       module _ (inside : i < n) (o : Bool) (seen : o ≡ is-open (board-at (store-of v) i)) where
         there : leb (length (store-of v .boards)) i ≡ false
-        there = lt-leb (length (store-of v .boards)) i (omega (arith, boards-count v (searchable e) n boards))
+        there = lt-leb (length (store-of v .boards)) i (omega (arith, boards-count v (placed e) n boards))
 
         pub shut-board : not o ≡ true → 10 ≡ board-test v i
         unfolding board-test first-met
@@ -108,8 +112,8 @@ module _ (v : List ℕ) (i t : ℕ) (tested : t ≡ board-test v i) where
       go (suc m) k e = rw (← e)
 
   module _ (e : t ≡ 0) where
-    pub part-searchable : Searchable v
-    part-searchable = read-searchable v i (sym tested ∙ e)
+    pub part-placed : Placed v
+    part-placed = searchable-placed v (read-searchable v i (sym tested ∙ e))
 
     pub part-board : i < length (store-of v .boards)
     part-board = read-inside v i (sym tested ∙ e)

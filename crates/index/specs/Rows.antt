@@ -2,11 +2,11 @@
 use Prim.Native.Nat.{ℕ, zero, suc, _+_, _-_, _*_, _≤_, _<_}
 use native.Mathlib.Omega.{arith}
 use native.Mathlib.Nat.{add-sub-cancel-left}
-use mathlib.Core.Path.{_≡_, refl, sym, _∙_, ap}
+use mathlib.Core.Path.{_≡_, refl, sym, _∙_, ap, subst}
 use mathlib.Core.Bool.{not}
 use mathlib.Core.List.{List, [], _∷_, _++_, flatMap}
 use lib.Dec.{leb}
-use lib.ListN.{length, take, drop, take-append-drop, length-drop}
+use lib.ListN.{length, getD, take, drop, take-append-drop, length-drop}
 use lib.Seq.{take-at, take-append-le, drop-append-le, drop-drop, length-take-le}
 use borrow.Author.Tests.{leb-false, not-false}
 use Rattle.rules.specs.Lists.{padded}
@@ -17,8 +17,8 @@ use Rattle.rules.specs.Calls.{store-tests, board-test, rows-by, board-rows}
 use Rattle.rules.specs.laws.All.{always}
 use Rattle.rules.specs.laws.Numbers.{unmet}
 use Rattle.rules.specs.laws.Words.{flat-length, row-words-length}
-use Rattle.query.specs.Keys.{Searchable, sound-searchable}
-use Rattle.watch.specs.Lent.{BoardAt, board-placed}
+use Rattle.query.specs.Keys.{Searchable, sound-searchable, searchable-placed}
+use Rattle.parts.specs.BoardAt.{BoardAt, board-starts}
 use Rattle.index.specs.declared.Part.{Part}
 
 -- the rows stand behind the board's six first words; where the test refuses, the part is empty
@@ -48,6 +48,11 @@ module _ (v : List ℕ) (i : ℕ) (e : board-test v i ≡ 0) where
   pub read-inside : i < length (store-of v .boards)
   unfolding board-test store-tests
   read-inside = leb-false _ _ (unmet (store-tests v ++ others) (omega arith) e .1 .1 .1 .1 .0)
+
+  read-at : BoardAt v i (boards-start (length (store-of v .pages)) (store-of v .slots) + 86 * i)
+  read-at =
+      let at = board-starts v (searchable-placed v read-searchable) (getD v 5 0) (getD v 7 0) (boards-start (getD v 5 0) (getD v 7 0)) i refl refl refl read-inside in
+      subst (BoardAt v i) (at .starts) at
 
 -- ---- what stands in the part
 rows-there : (b : Board) → take (5 * length (b .rows)) (drop 6 (board-words b)) ≡ flatMap row-words (b .rows)
@@ -92,7 +97,7 @@ pub record Inside (v : List ℕ) (rows : List ℕ) (p : Part) : Type 0 where
 inside-by : (v : List ℕ) (i m : ℕ) → board-test v i ≡ m → Inside v (rows-by m v i) (part-by m v i)
 unfolding part-by rows-by
 inside-by v i zero e =
-    let at = board-placed v (read-searchable v i e) i (read-inside v i e) in
+    let at = read-at v i e in
     record { ordered = omega arith; within = rows-inside v i _ at; low = rows-low v i _ at; holds = rows-read v i _ at }
 inside-by v i (suc m) e = record { ordered = omega arith; within = omega arith; low = omega arith; holds = refl }
 

@@ -1,13 +1,10 @@
 // The public calls. Each tests its own input, answers by the table of numbers and asks nothing of its caller.
 use rules::Window;
 ghost use mathlib.Core.Path.{_≡_};
-ghost use Prim.Native.Nat.{_≤_, _<_};
+ghost use Prim.Native.Nat.{_≤_};
 ghost use lib.ListN.{length, getD};
 ghost use Rattle.rules.specs.Lists.{padded};
-ghost use Rattle.rules.specs.Store.{store-of, board-at};
-ghost use Rattle.rules.specs.Boards.{is-open};
 ghost use Rattle.rules.specs.Calls as calls;
-ghost use Rattle.query.specs.Keys.{Searchable};
 ghost use Rattle.index.specs.Fresh.{first-words};
 ghost use Rattle.index.specs.Answers.{Answered};
 ghost use Rattle.index.specs.Rows.{board-part};
@@ -114,17 +111,6 @@ pub fn query(store: &[u32], x0: u32, y0: u32, x1: u32, y1: u32, rows: &mut [u32]
 
 // ---- boards
 
-// Whether board i is open: its own words, in the store's middle, are lent on to be read.
-fn is_open(store: &[u32], i: usize) -> bool
-    requires { ⌜ Searchable (now store) ⌝ }
-    requires { ⌜ i < length (store-of (now store) .boards) ⌝ }
-    ensures { λ r. ⌜ r ≡ is-open (board-at (store-of (now (store .entry))) i) ⌝ }
-{
-    let a = watch::board_start(store, i);
-    let e = a + 86;
-    board::is_open(&store[a..e])
-}
-
 // The number for board i: 0 if its rows can be read.
 pub fn board_test(store: &[u32], i: u32) -> u32
     ensures { λ r. ⌜ r ≡ calls.board-test (now (store .entry)) i ⌝ }
@@ -136,7 +122,7 @@ pub fn board_test(store: &[u32], i: u32) -> u32
     if header::boards(store) <= i as usize {
         return 9;
     }
-    if !is_open(store, i as usize) {
+    if !parts::is_open(store, i as usize) {
         return 10;
     }
     0
@@ -161,7 +147,7 @@ pub fn board_part(store: &[u32], i: u32) -> Part
             to: 0,
         };
     }
-    let a = watch::board_start(store, i as usize);
+    let a = parts::board_start(store, i as usize);
     let e = a + 86;
     let n = board::row_count(&store[a..e]);
     let from = a + 6;

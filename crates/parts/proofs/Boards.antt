@@ -16,21 +16,19 @@ use Rattle.rules.specs.declared.Row.{Row}
 use Rattle.rules.specs.declared.Window.{Window}
 use Rattle.rules.specs.Lists.{some-one, count, one-if}
 use Rattle.rules.specs.Boxes.{meets}
-use Rattle.rules.specs.Store.{Board, Store, row-limit, closed, board-words, board-of, board-at, store-of}
-use Rattle.rules.specs.Boards.{is-open, lists, told, untold, overfull, touched}
+use Rattle.rules.specs.Store.{Board, row-limit, closed, board-words, board-of, board-at, store-of}
+use Rattle.rules.specs.Boards.{is-open, lists, told, untold, overfull}
 use Rattle.rules.specs.laws.All.{All, all-map, all-zip, all-at, all-set}
 use Rattle.rules.specs.laws.Boards.{untold-closed, touched-told}
 use Rattle.rules.specs.laws.Counts.{count-append}
 use Rattle.rules.specs.laws.Rows.{RowsAscend, no-one-all, told-lists, untold-lists, untold-same}
 use Rattle.rules.specs.laws.Parts.{with-boards}
 use Rattle.rules.specs.laws.Placed.{board-back}
-use Rattle.rules.specs.laws.Words.{board-read}
 use Rattle.board.specs.Rows.{BoardWords}
-use Rattle.board.specs.Laws.{board-is}
-use Rattle.parts.specs.InOrder.{BoardInOrder, InOrder, Lent, Became, Counted}
-use Rattle.parts.specs.Laws.{lent-placed, lent-became, became, became-lent, became-then, order-boards, told-ascend, told-in-order, untold-in-order}
+use Rattle.parts.specs.InOrder.{BoardInOrder, Lent, Became}
+use Rattle.parts.specs.Laws.{lent-placed, lent-became, became, became-lent, became-then, order-boards, told-in-order, untold-in-order}
 use Rattle.parts.specs.BoardAt.{BoardAt}
-use Rattle.parts.specs.Boards.{touch, Told}
+use Rattle.parts.specs.Promises.{touch, Told, ToldAll}
 
 -- ---- one board's own words
 pub board-open : {v : List ℕ} {i a : ℕ} → BoardAt v i a → (o : Bool) → o ≡ is-open (board-of (take (a + 86 - a) (drop a v))) → o ≡ is-open (board-at (store-of v) i)
@@ -172,7 +170,7 @@ module _ (tell : Board → Board) (t : Train) (v : List ℕ) where
     pub telling-lent : Lent w
     telling-lent = became-lent (so .now)
 
-    pub telling-end : length all ≤ i → Counted (with-boards (store-of v) (map tell all)) (touched t all (map tell all)) w n
+    pub telling-end : length all ≤ i → ToldAll tell t (store-of v) w n
     telling-end h =
         record {
           became = rw (so-far-end tell all i h) at (so .now);

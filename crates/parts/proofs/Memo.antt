@@ -3,7 +3,7 @@ use Prim.Native.Nat.{ℕ, _+_, _-_, _*_, _≤_, _<_, min}
 use native.Mathlib.Omega.{arith}
 use native.Mathlib.Numerals.{add-one}
 use mathlib.Core.Path.{_≡_, refl, sym, _∙_, ap}
-use mathlib.Core.Bool.{Bool, false, _&&_}
+use mathlib.Core.Bool.{Bool, false}
 use mathlib.Core.List.{List, [], _∷_}
 use lib.Dec.{leb}
 use lib.ListN.{length, getD, take, drop, length-take, drop-of-length-le}
@@ -16,26 +16,20 @@ use Rattle.rules.specs.declared.Slot.{Slot}
 use Rattle.rules.specs.declared.LookUp.{LookUp}
 use Rattle.rules.specs.declared.LookUp.the-variants.{Absent, Found}
 use Rattle.rules.specs.Store.{Store, limit, train-of, no-place, memo-start, memo-words, pages-of, store-of}
-use Rattle.rules.specs.Memo.{look-up, is-absent, noted, lowered, lowered-all, inspected}
+use Rattle.rules.specs.Memo.{look-up, noted, lowered, lowered-all}
 use Rattle.rules.specs.Cleaning.{smallest-mark}
 use Rattle.rules.specs.Views.{MemoInRange}
 use Rattle.rules.specs.laws.All.{All}
 use Rattle.rules.specs.laws.Memo.{room-for, noted-in-range, lowered-in-range, inspected-in-range}
 use Rattle.rules.specs.laws.Parts.{with-memo}
-use Rattle.rules.specs.laws.Placed.{header-long, pages-most, slots-fit, memo-end-fits, memo-start-fits, memo-room as part-room, memo-part, memo-back}
+use Rattle.rules.specs.laws.Placed.{memo-part, memo-back}
 use Rattle.page.specs.declared.Page.{Page}
 use Rattle.page.specs.Struct.{contents}
 use Rattle.memo.specs.Slots.{room, slots-in, MemoWords, Inspected}
 use Rattle.memo.specs.Laws.{memo-room, memo-given, given-room, given-counts, so-looked-up, so-full, so-noted, so-lowered, so-inspected, so-freed}
-use Rattle.parts.specs.InOrder.{Lent, Became, Counted, freed}
+use Rattle.parts.specs.InOrder.{Lent, Became}
+use Rattle.parts.specs.Promises.{no-slot-left, Freed}
 use Rattle.parts.specs.Laws.{lent-placed, lent-became, became, became-lent, became-then, order-memo}
-
--- that the counts are there, and that the memo's part is a part of the store
-pub ruleset memo-inside = (header-long, pages-most, slots-fit, memo-end-fits, memo-start-fits, part-room, lent-placed)
-
--- a slot of the train, or one that is free
-abbrev pub SlotLeft : Store → Train → Type 0
-SlotLeft s t = (is-absent (look-up t (s .memo)) && leb (s .slots) (length (s .memo))) ≡ false
 
 module _ (v : List ℕ) (l : Lent v) (p k from : ℕ) (there : p ≡ getD v 5 0) (slots : k ≡ getD v 7 0) (starts : from ≡ memo-start p) where
   abbrev s : Store
@@ -59,14 +53,14 @@ module _ (v : List ℕ) (l : Lent v) (p k from : ℕ) (there : p ≡ getD v 5 0)
     looked : found ≡ look-up t (s .memo)
     looked = so-looked-up (s .slots) (s .memo) (l .order .memo) m part t found so
 
-    pub absent-full : found ≡ Absent → (b : Bool) → b ≡ leb (room m) (length (slots-in m)) → b ≡ (is-absent (look-up t (s .memo)) && leb (s .slots) (length (s .memo)))
+    pub absent-full : found ≡ Absent → (b : Bool) → b ≡ leb (room m) (length (slots-in m)) → b ≡ no-slot-left s t
     absent-full a b e = rw (sym looked ∙ a) (so-full (s .slots) (s .memo) (l .order .memo) m part b e)
 
-    pub found-left : (place : ℕ) (latest : Stamp) (old : ℕ) → found ≡ Found place latest old → false ≡ (is-absent (look-up t (s .memo)) && leb (s .slots) (length (s .memo)))
+    pub found-left : (place : ℕ) (latest : Stamp) (old : ℕ) → found ≡ Found place latest old → false ≡ no-slot-left s t
     found-left place latest old f = rw (sym looked ∙ f)
 
   -- ---- what is written
-  pub room-to-note : (t : Train) → SlotLeft s t → look-up t (slots-in m) ≡ Absent → length (slots-in m) < room m
+  pub room-to-note : (t : Train) → no-slot-left s t ≡ false → look-up t (slots-in m) ≡ Absent → length (slots-in m) < room m
   room-to-note t f = given-room (s .slots) (s .memo) (l .order .memo) m part t (room-for t (s .slots) (s .memo) f)
 
   pub counts-to-note : All (λ m. m .old < limit) (s .memo) → All (λ m. m .old < limit) (slots-in m)
@@ -77,7 +71,7 @@ module _ (v : List ℕ) (l : Lent v) (p k from : ℕ) (there : p ≡ getD v 5 0)
   wrote memo r m′ e = became (order-memo (l .order) r) (memo-back v (lent-placed v l) p there k slots from starts memo m′ e)
 
   module _ (m′ : List ℕ) where
-    pub memo-noted : (t : Train) (st : Stamp) → 1 ≤ t .0 → SlotLeft s t → m′ ≡ memo-words (room m) (noted t st (slots-in m))
+    pub memo-noted : (t : Train) (st : Stamp) → 1 ≤ t .0 → no-slot-left s t ≡ false → m′ ≡ memo-words (room m) (noted t st (slots-in m))
         → Became (with-memo s (noted t st (s .memo))) (putMid from (from + 3 * k - from) v m′)
     memo-noted t st h f e =
         wrote _ (noted-in-range (s .slots) (l .order .memo) t st h (room-for t (s .slots) (s .memo) f)) m′ (so-noted (s .slots) (s .memo) (l .order .memo) m part t st m′ e)
@@ -87,8 +81,7 @@ module _ (v : List ℕ) (l : Lent v) (p k from : ℕ) (there : p ≡ getD v 5 0)
     memo-lowered t e =
         wrote _ (lowered-in-range (s .slots) (l .order .memo) t) m′ (so-lowered (s .slots) (s .memo) (l .order .memo) m part t m′ e)
 
-    pub memo-inspected : (mark : Stamp) (n : ℕ) → Inspected m mark n m′
-        → Counted (with-memo s (inspected mark (s .memo))) (freed mark (s .memo)) (putMid from (from + 3 * k - from) v m′) n
+    pub memo-inspected : (mark : Stamp) (n : ℕ) → Inspected m mark n m′ → Freed mark s (putMid from (from + 3 * k - from) v m′) n
     memo-inspected mark n i =
         record {
           became = wrote _ (inspected-in-range (s .slots) (l .order .memo) mark) m′ (so-inspected (s .slots) (s .memo) (l .order .memo) m part mark n m′ i);
@@ -97,8 +90,7 @@ module _ (v : List ℕ) (l : Lent v) (p k from : ℕ) (there : p ≡ getD v 5 0)
 
 -- ---- the smallest mark
 pub mark-inspected : (v w : List ℕ) (p : ℕ) (mark : Stamp) (n : ℕ) → p ≡ getD v 5 0 → mark ≡ smallest-mark (pages-of p (drop 16 v))
-    → Counted (with-memo (store-of v) (inspected mark (store-of v .memo))) (freed mark (store-of v .memo)) w n
-    → Counted (with-memo (store-of v) (inspected (smallest-mark (store-of v .pages)) (store-of v .memo))) (freed (smallest-mark (store-of v .pages)) (store-of v .memo)) w n
+    → Freed mark (store-of v) w n → Freed (smallest-mark (store-of v .pages)) (store-of v) w n
 unfolding store-of
 mark-inspected v w p mark n there e h = let z : mark ≡ smallest-mark (store-of v .pages) = rw there at e in rw z at h
 

@@ -2,10 +2,10 @@
 use Prim.Native.Nat.{ℕ, suc, _+_, _*_, _-_, _≤_, _<_}
 use native.Mathlib.Omega.{arith}
 use native.Mathlib.Numerals.{add-one}
-use mathlib.Core.Path.{_≡_, sym, _∙_, ap}
+use mathlib.Core.Path.{_≡_, _∙_, ap}
 use mathlib.Core.List.{List, [], _∷_, _++_, map, flatMap, append-nil}
 use lib.ListN.{length, take, drop, getD, set, replicate, length-set, length-map, length-replicate, replicate-append-replicate}
-use lib.Seq.{paste, paste-zero, paste-suc, take-all, drop-at, length-take-le}
+use lib.Seq.{paste, paste-suc, take-all, drop-at, length-take-le}
 use borrow.Rule.Slice.PartMut.{putMid}
 use Rattle.rules.specs.declared.Row.{Row}
 use Rattle.rules.specs.declared.Window.{Window}
@@ -24,9 +24,6 @@ use Rattle.parts.proofs.Boards.{board-became}
 -- ---- the copy
 pub opened-long : (o : List ℕ) (n : ℕ) (w : Window) → o ≡ board-words (opened w []) → length (set o 5 n) ≡ 86
 opened-long o n w e = length-set o 5 n ∙ ap length e ∙ board-words-length (opened w []) (omega arith)
-
-pub copy-none : (b₀ rows : List ℕ) → b₀ ≡ paste b₀ 6 rows 0
-copy-none b₀ rows = paste-zero b₀ 6 rows
 
 module _ (b₀ rows b : List ℕ) (i : ℕ) (all : length rows ≡ 80) (copied : b ≡ paste b₀ 6 rows i) where
   pub copy-on : length b₀ ≡ 86 → i < 80 → set b (6 + i) (getD rows i 0) ≡ paste b₀ 6 rows (i + 1)

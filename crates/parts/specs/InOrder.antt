@@ -1,13 +1,10 @@
 -- A store in order: what every write of a step finds and leaves. Between two writes the rules that tie the tree, the memo and the
 -- boards to each other may be broken; each part by itself never is.
-use Prim.Native.Nat.{ℕ, _-_, _≤_}
+use Prim.Native.Nat.{ℕ, _≤_}
 use mathlib.Core.Path.{_≡_}
 use mathlib.Core.List.{List}
 use lib.ListN.{length}
-use Rattle.rules.specs.declared.Stamp.{Stamp}
-use Rattle.rules.specs.declared.Slot.{Slot}
 use Rattle.rules.specs.Store.{Board, Store, row-limit, words, store-of}
-use Rattle.rules.specs.Memo.{inspected}
 use Rattle.rules.specs.Views.{Sizes, MemoInRange}
 use Rattle.rules.specs.laws.All.{All}
 use Rattle.rules.specs.laws.Rows.{RowsAscend}
@@ -40,7 +37,3 @@ pub record Became (s : Store) (w : List ℕ) : Type 0 where
 pub record Counted (s : Store) (n : ℕ) (w : List ℕ) (r : ℕ) : Type 0 where
   pub became : Became s w
   pub counted : r ≡ n
-
--- how many slots inspecting frees
-abbrev pub freed : Stamp → List Slot → ℕ
-freed mark memo = length memo - length (inspected mark memo)

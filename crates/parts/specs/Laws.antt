@@ -3,15 +3,16 @@ use Prim.Native.Nat.{ℕ}
 use native.Mathlib.Omega.{arith}
 use mathlib.Core.Path.{_≡_, refl, sym, _∙_, ap}
 use mathlib.Core.Bool.{Bool, true, false}
-use mathlib.Core.List.{List}
+use mathlib.Core.List.{List, map}
 use lib.Dec.{eqb}
-use lib.ListN.{length, set}
+use lib.ListN.{length, set, take}
 use borrow.Author.Tests.{eqb-true, eqb-false, ltb-false}
 use Rattle.rules.specs.declared.Row.{Row}
 use Rattle.rules.specs.declared.Slot.{Slot}
 use Rattle.rules.specs.declared.Stamp.{Stamp}
 use Rattle.rules.specs.declared.PageNo.{PageNo}
 use Rattle.rules.specs.declared.Train.{Train}
+use Rattle.rules.specs.declared.Window.{Window}
 use Rattle.rules.specs.Lists.{same-words}
 use Rattle.rules.specs.Boxes.{meets}
 use Rattle.rules.specs.Store.{Board, Store, row-limit, closed, words, store-of}
@@ -29,6 +30,7 @@ use Rattle.rules.specs.laws.Placed.{Placed}
 use Rattle.rules.specs.theorems.Query.{rows-ascend}
 use Rattle.theorems.specs.ProperBoxes.{boxes-proper}
 use Rattle.tree.specs.Putting.{Ready, Grown, with-tree}
+use Rattle.query.specs.Keys.{row-of-key, Found}
 use Rattle.parts.specs.InOrder.{BoardInOrder, InOrder, Lent, Became}
 
 -- ---- what is in order
@@ -92,6 +94,10 @@ untold-in-order t b o =
 
 pub closed-in-order : BoardInOrder closed
 closed-in-order = record { few = omega arith; ascend = r-none }
+
+-- the rows that a search finds ascend, as an opened board's must
+pub found-ascend : {s : Store} {w : Window} {keys work : List ℕ} {n : ℕ} {keys′ work′ : List ℕ} → Found s w keys work n keys′ work′ → RowsAscend (map (row-of-key (s .pages)) (take n keys′))
+found-ascend {s} {w} f = rw (f .rows) (rows-ascend s w)
 
 -- ---- words and back
 pub became : {s : Store} {w : List ℕ} → InOrder s → w ≡ words s → Became s w

@@ -2,4 +2,4 @@
 pub mod InOrder
 pub mod Laws
 pub mod BoardAt
-pub mod Boards
+pub mod Promises

@@ -6,14 +6,13 @@ use rules::Stamp;
 use rules::Train;
 use rules::Window;
 ghost use mathlib.Core.Path.{_≡_};
-ghost use mathlib.Core.Bool.{false, _&&_};
+ghost use mathlib.Core.Bool.{false};
 ghost use mathlib.Core.List.{_∷_, _++_, map};
 ghost use Prim.Native.Nat.{_≤_, _<_};
-ghost use lib.Dec.{leb};
 ghost use lib.ListN.{length, set, take};
 ghost use Rattle.rules.specs.Lists.{some-one};
 ghost use Rattle.rules.specs.Store.{limit, row-limit, closed, window-words, board-of, board-at, store-of};
-ghost use Rattle.rules.specs.Memo.{look-up, is-absent, noted, lowered, lowered-all, inspected};
+ghost use Rattle.rules.specs.Memo.{noted, lowered, lowered-all};
 ghost use Rattle.rules.specs.Cleaning.{smallest-mark};
 ghost use Rattle.rules.specs.Boards as rules;
 ghost use Rattle.rules.specs.laws.All.{All};
@@ -23,16 +22,16 @@ ghost use Rattle.rules.specs.laws.Placed.{Placed};
 ghost use Rattle.page.specs.Struct.{contents};
 ghost use Rattle.board.specs.Rows.{BoardWords};
 ghost use Rattle.query.specs.Keys.{row-of-key, Searchable};
-ghost use Rattle.parts.specs.InOrder.{Lent, Became, Counted, freed};
+ghost use Rattle.parts.specs.InOrder.{Lent, Became};
 ghost use Rattle.parts.specs.BoardAt.{BoardAt};
-ghost use Rattle.parts.specs.Boards.{Told, touch};
+ghost use Rattle.parts.specs.Promises.{no-slot-left, Freed, touch, Told, ToldAll};
 
 // ---- the memo
 
 // Whether a new stamp of the train could not be noted: it has no slot, and every slot is used.
 pub fn no_slot_left(store: &[u32], t: Train) -> bool
     requires { ⌜ Lent (now store) ⌝ }
-    ensures { λ r. ⌜ r ≡ (is-absent (look-up t (store-of (now (store .entry)) .memo)) && leb (store-of (now (store .entry)) .slots) (length (store-of (now (store .entry)) .memo))) ⌝ }
+    ensures { λ r. ⌜ r ≡ no-slot-left (store-of (now (store .entry))) t ⌝ }
 {
     let from = header::memo_start(header::pages(store));
     let to = from + 3 * header::slots(store);
@@ -44,8 +43,7 @@ pub fn no_slot_left(store: &[u32], t: Train) -> bool
 
 // Notes that this stamp of the train is the latest.
 pub fn note(store: &mut [u32], t: Train, stamp: Stamp)
-    requires { ⌜ Lent (now store) × (1 ≤ t .0) ⌝ }
-    requires { ⌜ (is-absent (look-up t (store-of (now store) .memo)) && leb (store-of (now store) .slots) (length (store-of (now store) .memo))) ≡ false ⌝ }
+    requires { ⌜ Lent (now store) × (1 ≤ t .0) × (no-slot-left (store-of (now store)) t ≡ false) ⌝ }
     requires { ⌜ All (λ m. m .old < limit) (store-of (now store) .memo) ⌝ }
     ensures { λ _. ⌜ Became (with-memo (store-of (now (store .entry))) (noted t stamp (store-of (now (store .entry)) .memo))) (now (store .exit)) ⌝ }
 {
@@ -81,7 +79,7 @@ pub fn lower_all(store: &mut [u32], gone: Page)
 // Frees each slot whose stamp is below the mark, and says how many.
 fn free_below(store: &mut [u32], mark: Stamp) -> usize
     requires { ⌜ Lent (now store) ⌝ }
-    ensures { λ r. ⌜ Counted (with-memo (store-of (now (store .entry))) (inspected mark (store-of (now (store .entry)) .memo))) (freed mark (store-of (now (store .entry)) .memo)) (now (store .exit)) r ⌝ }
+    ensures { λ r. ⌜ Freed mark (store-of (now (store .entry))) (now (store .exit)) r ⌝ }
 {
     let from = header::memo_start(header::pages(store));
     let to = from + 3 * header::slots(store);
@@ -91,7 +89,7 @@ fn free_below(store: &mut [u32], mark: Stamp) -> usize
 // The same of the smallest mark of a leaf.
 pub fn inspect(store: &mut [u32]) -> usize
     requires { ⌜ Lent (now store) ⌝ }
-    ensures { λ r. ⌜ Counted (with-memo (store-of (now (store .entry))) (inspected (smallest-mark (store-of (now (store .entry)) .pages)) (store-of (now (store .entry)) .memo))) (freed (smallest-mark (store-of (now (store .entry)) .pages)) (store-of (now (store .entry)) .memo)) (now (store .exit)) r ⌝ }
+    ensures { λ r. ⌜ Freed (smallest-mark (store-of (now (store .entry)) .pages)) (store-of (now (store .entry))) (now (store .exit)) r ⌝ }
 {
     let mark = page::smallest_mark(store, header::pages(store));
     free_below(store, mark)
@@ -153,7 +151,7 @@ fn touches(b: &[u32], r: Row) -> usize
     0
 }
 
-// Tells one board of a report.
+// Tells one board of a report; whether that touches it is tried before its rows change.
 fn tell_one(b: &mut [u32], r: Row) -> usize
     requires { ⌜ BoardWords (now b) × RowsAscend (board-of (now b) .rows) × (length (rules.told r (board-of (now b)) .rows) ≤ row-limit) ⌝ }
     ensures { λ x. ⌜ Told (r .train) (board-of (now (b .entry))) (rules.told r (board-of (now (b .entry)))) (now (b .exit)) x ⌝ }
@@ -181,7 +179,7 @@ fn untell_one(b: &mut [u32], t: Train) -> usize
 // Tells every board of a report; the answer is how many open ones list the train before or after.
 pub fn tell_all(store: &mut [u32], r: Row) -> usize
     requires { ⌜ Lent (now store) × (some-one (rules.overfull r) (store-of (now store) .boards) ≡ false) ⌝ }
-    ensures { λ x. ⌜ Counted (with-boards (store-of (now (store .entry))) (map (rules.told r) (store-of (now (store .entry)) .boards))) (rules.touched (r .train) (store-of (now (store .entry)) .boards) (map (rules.told r) (store-of (now (store .entry)) .boards))) (now (store .exit)) x ⌝ }
+    ensures { λ x. ⌜ ToldAll (rules.told r) (r .train) (store-of (now (store .entry))) (now (store .exit)) x ⌝ }
 {
     let n = header::boards(store);
     let mut touched = 0;
@@ -198,18 +196,18 @@ pub fn tell_all(store: &mut [u32], r: Row) -> usize
 // The same of a withdrawal.
 pub fn untell_all(store: &mut [u32], t: Train) -> usize
     requires { ⌜ Lent (now store) ⌝ }
-    ensures { λ x. ⌜ Counted (with-boards (store-of (now (store .entry))) (map (rules.untold t) (store-of (now (store .entry)) .boards))) (rules.touched t (store-of (now (store .entry)) .boards) (map (rules.untold t) (store-of (now (store .entry)) .boards))) (now (store .exit)) x ⌝ }
+    ensures { λ x. ⌜ ToldAll (rules.untold t) t (store-of (now (store .entry))) (now (store .exit)) x ⌝ }
 {
     let n = header::boards(store);
-    let mut touched = 0;
+    let mut listed = 0;
     let mut i = 0;
     while i < n {
         let a = board_start(store, i);
         let e = a + 86;
-        touched += untell_one(&mut store[a..e], t);
+        listed += untell_one(&mut store[a..e], t);
         i += 1;
     }
-    touched
+    listed
 }
 
 pub fn close_board(store: &mut [u32], i: usize)
@@ -221,7 +219,7 @@ pub fn close_board(store: &mut [u32], i: usize)
     board::clear(&mut store[a..e]);
 }
 
-// An open board with this window, n rows, and the words of sixteen rows, of which those behind the n are zero.
+// Writes an open board with this window, a count of n and these words of sixteen rows.
 fn write_board(b: &mut [u32], w: Window, n: usize, rows: &[u32])
     requires { ⌜ (length (now b) ≡ 86) × (n ≤ row-limit) × (length (now rows) ≡ 80) ⌝ }
     ensures { λ _. ⌜ now (b .exit) ≡ window-words w ++ (1 ∷ n ∷ now (rows .entry)) ⌝ }

@@ -21,7 +21,7 @@ use Rattle.rules.specs.declared.LookUp.{LookUp}
 use Rattle.rules.specs.declared.LookUp.the-variants.{Absent, Found as At}
 use Rattle.rules.specs.Lists.{same-words, some-one}
 use Rattle.rules.specs.Store.{Board, Store, limit, stamp, closed, words, store-of}
-use Rattle.rules.specs.Memo.{look-up, is-absent, noted, inspected}
+use Rattle.rules.specs.Memo.{look-up, is-absent, noted}
 use Rattle.rules.specs.Live.{rows-in}
 use Rattle.rules.specs.Tree.{tree-of, put-at}
 use Rattle.rules.specs.Cleaning.{smallest-mark}
@@ -40,7 +40,8 @@ use Rattle.theorems.specs.Accepted.{TakesStamp, AcceptedReport}
 use Rattle.theorems.specs.Stamped.{stamped}
 use Rattle.tree.specs.Putting.{Grown, with-tree}
 use Rattle.query.specs.Keys.{row-of-key, Found}
-use Rattle.parts.specs.InOrder.{Lent, Became, Counted, freed}
+use Rattle.parts.specs.InOrder.{Lent, Became}
+use Rattle.parts.specs.Promises.{no-slot-left, Freed, ToldAll}
 use Rattle.parts.specs.Laws.{became-lent, became-then, next-became, grown-became}
 use Rattle.steps.specs.Stepping.{Effected, StampTaken}
 
@@ -58,7 +59,7 @@ module _ (w : List ℕ) (e : sound-words w ≡ true) where
       all-map (S .rule6 .slots) λ m k. omega (arith, k .old-most, k .stamp-below, S .ranges .header .next-most)
 
   module _ (t : Train) (h : TakesStamp (store-of w) t) where
-    pub slot-there : (is-absent (look-up t (store-of w .memo)) && leb (store-of w .slots) (length (store-of w .memo))) ≡ false
+    pub slot-there : no-slot-left (store-of w) t ≡ false
     slot-there = go (look-up t (store-of w .memo)) refl
       where
         go : (f : LookUp) → look-up t (store-of w .memo) ≡ f → (is-absent f && leb (store-of w .slots) (length (store-of w .memo))) ≡ false
@@ -89,8 +90,8 @@ few-boards : (t : Train) (tell : Board → Board) (bs : List Board) → length b
 few-boards t tell bs h n e =
     record { fits = omega (arith, touched-told t tell bs, count-left (λ b. is-open b && (lists t b || lists t (tell b))) bs) }
 
-counted-then : {s : Store} {w w′ : List ℕ} {n : ℕ} (f : Store → Store) (g : Store → ℕ) → Became s w → Counted (f (store-of w)) (g (store-of w)) w′ n → Counted (f s) (g s) w′ n
-counted-then f g a b = rw (a .stored) at b
+told-then : {s : Store} {w w′ : List ℕ} {n : ℕ} (tell : Board → Board) (t : Train) → Became s w → ToldAll tell t (store-of w) w′ n → ToldAll tell t s w′ n
+told-then tell t a b = rw (a .stored) at b
 
 -- ---- a report
 module _ (w : List ℕ) (x : Step) (e : sound-words w ≡ true) (allowed : AcceptedReport (store-of w) x) (b : Box) (its : b ≡ reported-box x) (w₁ : List ℕ) (r : Stamp) (h : StampTaken (store-of w) (its-train x) w₁ r) where
@@ -132,29 +133,26 @@ module _ (w : List ℕ) (x : Step) (e : sound-words w ≡ true) (allowed : Accep
     unfolding overfull
     none-overfull = rw (its, ap (λ u. u .boards) (put-became .stored)) (no-one _ (all-map (allowed .rows-room) λ b k. le-ltb _ _ k))
 
-    module _ (w₃ : List ℕ) (n : ℕ) (c : Counted (with-boards (store-of w₂) (map (told (row b)) (store-of w₂ .boards))) (touched (its-train x) (store-of w₂ .boards) (map (told (row b)) (store-of w₂ .boards))) w₃ n) where
+    module _ (w₃ : List ℕ) (n : ℕ) (c : ToldAll (told (row b)) (its-train x) (store-of w₂) w₃ n) where
       pub report-fits : Number w32 n
       report-fits = few-boards (its-train x) (told (row b)) (store-of w₂ .boards) (put-lent .order .sizes .boards-most) n (c .counted)
 
       pub report-effect : Effected (report s x) w₃ n
       unfolding report
-      report-effect =
-          counted-then (λ u. with-boards u (map (told (reported-row x)) (u .boards))) (λ u. touched (its-train x) (u .boards) (map (told (reported-row x)) (u .boards))) put-became (rw its at c)
+      report-effect = told-then (told (reported-row x)) (its-train x) put-became (rw its at c)
 
 -- ---- a withdrawal
 module _ (w : List ℕ) (x : Step) (w₁ : List ℕ) (r : Stamp) (h : StampTaken (store-of w) (its-train x) w₁ r)
-    (w₂ : List ℕ) (n : ℕ) (c : Counted (with-boards (store-of w₁) (map (untold (its-train x)) (store-of w₁ .boards))) (touched (its-train x) (store-of w₁ .boards) (map (untold (its-train x)) (store-of w₁ .boards))) w₂ n) where
+    (w₂ : List ℕ) (n : ℕ) (c : ToldAll (untold (its-train x)) (its-train x) (store-of w₁) w₂ n) where
   pub withdraw-fits : Number w32 n
   withdraw-fits = few-boards (its-train x) (untold (its-train x)) (store-of w₁ .boards) (became-lent (h .became) .order .sizes .boards-most) n (c .counted)
 
   pub withdraw-effect : Effected (withdraw (store-of w) x) w₂ n
   unfolding withdraw
-  withdraw-effect =
-      counted-then (λ u. with-boards u (map (untold (its-train x)) (u .boards))) (λ u. touched (its-train x) (u .boards) (map (untold (its-train x)) (u .boards))) (h .became) c
+  withdraw-effect = told-then (untold (its-train x)) (its-train x) (h .became) c
 
 -- ---- inspecting
-module _ (w : List ℕ) (l : Lent w) (w′ : List ℕ) (r : ℕ)
-    (h : Counted (with-memo (store-of w) (inspected (smallest-mark (store-of w .pages)) (store-of w .memo))) (freed (smallest-mark (store-of w .pages)) (store-of w .memo)) w′ r) where
+module _ (w : List ℕ) (l : Lent w) (w′ : List ℕ) (r : ℕ) (h : Freed (smallest-mark (store-of w .pages)) (store-of w) w′ r) where
   pub inspect-fits : Number w32 r
   inspect-fits = record { fits = omega (arith, h .counted, l .order .memo .used-most, l .order .sizes .slots-most) }
 

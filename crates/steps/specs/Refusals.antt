@@ -1,7 +1,7 @@
 -- What a step of each kind can be refused with: of the tests in the table, those that its kind can meet.
-use Prim.Native.Nat.{ℕ, _*_}
+use Prim.Native.Nat.{_*_}
 use mathlib.Core.Path.{_≡_}
-use mathlib.Core.Bool.{Bool, true, false, not, _&&_, or-false}
+use mathlib.Core.Bool.{true, false, not, or-false}
 use mathlib.Core.List.{List, [], _∷_, _++_}
 use lib.Dec.{eqb, leb, ltb}
 use lib.ListN.{length}
@@ -9,15 +9,11 @@ use Rattle.rules.specs.declared.Step.{Step}
 use Rattle.rules.specs.Lists.{some-one}
 use Rattle.rules.specs.Boxes.{proper-box, proper-window}
 use Rattle.rules.specs.Store.{Store, limit, row-limit, board-at}
-use Rattle.rules.specs.Memo.{look-up, is-absent}
 use Rattle.rules.specs.Live.{held, rows-in}
 use Rattle.rules.specs.Boards.{is-open, overfull}
 use Rattle.rules.specs.Numbers.{Refusal, _when_, first-met}
 use Rattle.rules.specs.Steps.{its-train, reported-box, reported-row, its-window, in-form, refusal}
-
--- 13, of a report and of a withdrawal: no slot for the train and all of them used
-abbrev pub no-slot-left : Store → Step → Bool
-no-slot-left s x = is-absent (look-up (its-train x) (s .memo)) && leb (s .slots) (length (s .memo))
+use Rattle.parts.specs.Promises.{no-slot-left}
 
 abbrev pub report-tests : Store → Step → List Refusal
 report-tests s x =
@@ -25,12 +21,12 @@ report-tests s x =
     ∷ (8 when not (proper-box (reported-box x)))
     ∷ (11 when eqb (s .next .0) limit)
     ∷ (12 when leb (3 * length (s .pages)) (length (held s)))
-    ∷ (13 when no-slot-left s x)
+    ∷ (13 when no-slot-left s (its-train x))
     ∷ (14 when some-one (overfull (reported-row x)) (s .boards))
     ∷ []
 
 abbrev pub withdraw-tests : Store → Step → List Refusal
-withdraw-tests s x = (7 when eqb (its-train x .0) 0) ∷ (11 when eqb (s .next .0) limit) ∷ (13 when no-slot-left s x) ∷ []
+withdraw-tests s x = (7 when eqb (its-train x .0) 0) ∷ (11 when eqb (s .next .0) limit) ∷ (13 when no-slot-left s (its-train x)) ∷ []
 
 -- 14 needs the rows of the window, and is tried after the others
 abbrev pub opening-tests : Store → Step → List Refusal

@@ -1,3 +1,2 @@
--- Rule 8 of one board, and where a board's words are lent from.
+-- Rule 8 of one board.
 pub mod Watched
-pub mod Lent

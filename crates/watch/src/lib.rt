@@ -2,7 +2,7 @@
 use rules::Row;
 ghost use mathlib.Core.Path.{_≡_};
 ghost use mathlib.Core.List.{map};
-ghost use Prim.Native.Nat.{_≤_, _<_};
+ghost use Prim.Native.Nat.{_≤_};
 ghost use lib.ListN.{length, take};
 ghost use Rattle.rules.specs.Store.{board-of, row-words, store-of};
 ghost use Rattle.rules.specs.Lists.{same-words};
@@ -10,7 +10,6 @@ ghost use Rattle.rules.specs.Sound.{same-rows, rule8};
 ghost use Rattle.board.specs.Rows.{BoardWords};
 ghost use Rattle.query.specs.Keys.{row-of-key, Searchable};
 ghost use Rattle.watch.specs.Watched.{board-sound};
-ghost use Rattle.watch.specs.Lent.{BoardAt};
 
 // The same train and the same box.
 fn same_row(q: Row, r: Row) -> bool
@@ -71,15 +70,6 @@ fn board_sound(store: &[u32], b: &[u32]) -> bool
     rows_match(store, b, &keys, n)
 }
 
-// Where the words of board i start in the store.
-pub fn board_start(store: &[u32], i: usize) -> usize
-    requires { ⌜ Searchable (now store) ⌝ }
-    requires { ⌜ i < length (store-of (now store) .boards) ⌝ }
-    ensures { λ r. ⌜ BoardAt (now (store .entry)) i r ⌝ }
-{
-    header::boards_start(header::pages(store), header::slots(store)) + 86 * i
-}
-
 // Rule 8, board by board.
 pub fn boards_sound(store: &[u32]) -> bool
     requires { ⌜ Searchable (now store) ⌝ }
@@ -88,7 +78,7 @@ pub fn boards_sound(store: &[u32]) -> bool
     let n = header::boards(store);
     let mut i = 0;
     while i < n {
-        let a = board_start(store, i);
+        let a = parts::board_start(store, i);
         let e = a + 86;
         if !board_sound(store, &store[a..e]) {
             return false;

@@ -1,7 +1,7 @@
 -- `index::board_test` meets its contract. Assumes nothing.
 use borrow.Author.Needs.{needs}
-use Rattle.watch.specs.Lent.{header-long, board-inside}
-use Rattle.index.proofs.Calls.{searchable, test-refused, no-board, shut-board, open-board}
+use Rattle.rules.specs.laws.Placed.{header-long, board-inside}
+use Rattle.index.proofs.Calls.{placed, test-refused, no-board, shut-board, open-board}
 use Rattle.index.proofs.board_test.Statement.{statement}
 use Rattle.index.proofs.board_test.Tie as tie
 
@@ -11,8 +11,8 @@ board-test-spec =
     (tie.spec
     (λ c κs. search needs)
     (λ c. search (needs, test-refused))
-    (λ c κs. search (needs, header-long, searchable))
+    (λ c κs. search (needs, header-long, placed))
     (λ c. search (needs, no-board))
-    (λ c κs. (search (needs, searchable), search (needs, board-inside, searchable)))
+    (λ c κs. (search (needs, placed), search (needs, board-inside, placed)))
     (λ c. search (needs, shut-board))
     (λ c. search (needs, open-board)))

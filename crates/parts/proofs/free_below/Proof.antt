@@ -1,6 +1,8 @@
 -- `parts::free_below` meets its contract. Assumes nothing.
 use borrow.Author.Needs.{needs}
-use Rattle.parts.proofs.Memo.{memo-inside, memo-lent, memo-inspected}
+use Rattle.rules.specs.laws.Placed.{header-long, pages-most, slots-fit, memo-end-fits, memo-start-fits, memo-room}
+use Rattle.parts.specs.Laws.{lent-placed}
+use Rattle.parts.proofs.Memo.{memo-lent, memo-inspected}
 use Rattle.parts.proofs.free_below.Statement.{statement}
 use Rattle.parts.proofs.free_below.Tie as tie
 
@@ -8,15 +10,15 @@ pub free-below-spec : {M : Type 1} → statement M
 free-below-spec =
     tie.close
     (tie.spec
-    (λ c κs. search (needs, memo-inside))
-    (λ c κs. search (needs, memo-inside))
-    (λ c κs. search (needs, memo-inside))
-    (λ c. search (needs, memo-inside))
-    (λ c. search (needs, memo-inside))
-    (λ c. search (needs, memo-inside))
+    (λ c κs. search (needs, header-long, lent-placed))
+    (λ c κs. search (needs, pages-most, lent-placed))
+    (λ c κs. search (needs, header-long, lent-placed))
+    (λ c. search (needs, slots-fit, lent-placed))
+    (λ c. search (needs, memo-end-fits, lent-placed))
+    (λ c. search (needs, memo-start-fits, lent-placed))
     (λ c. search needs)
     (λ c. search needs)
-    (λ c. search (needs, memo-inside))
+    (λ c. search (needs, memo-room, lent-placed))
     (λ c κs. search (needs, memo-lent))
     (λ c. search needs)
     (λ c. search (needs, memo-inspected)))

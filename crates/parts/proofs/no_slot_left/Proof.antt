@@ -1,6 +1,8 @@
 -- `parts::no_slot_left` meets its contract. Assumes nothing.
 use borrow.Author.Needs.{needs}
-use Rattle.parts.proofs.Memo.{memo-inside, memo-lent, some-room, absent-full, found-left}
+use Rattle.rules.specs.laws.Placed.{header-long, pages-most, slots-fit, memo-end-fits, memo-start-fits, memo-room}
+use Rattle.parts.specs.Laws.{lent-placed}
+use Rattle.parts.proofs.Memo.{memo-lent, some-room, absent-full, found-left}
 use Rattle.parts.proofs.no_slot_left.Statement.{statement}
 use Rattle.parts.proofs.no_slot_left.Tie as tie
 
@@ -8,21 +10,21 @@ pub no-slot-left-spec : {M : Type 1} → statement M
 no-slot-left-spec =
     tie.close
     (tie.spec
-    (λ c κs. search (needs, memo-inside))
-    (λ c κs. search (needs, memo-inside))
-    (λ c κs. search (needs, memo-inside))
-    (λ c. search (needs, memo-inside))
-    (λ c. search (needs, memo-inside))
-    (λ c. search (needs, memo-inside))
+    (λ c κs. search (needs, header-long, lent-placed))
+    (λ c κs. search (needs, pages-most, lent-placed))
+    (λ c κs. search (needs, header-long, lent-placed))
+    (λ c. search (needs, slots-fit, lent-placed))
+    (λ c. search (needs, memo-end-fits, lent-placed))
+    (λ c. search (needs, memo-start-fits, lent-placed))
     (λ c. search needs)
     (λ c. search needs)
-    (λ c. search (needs, memo-inside))
+    (λ c. search (needs, memo-room, lent-placed))
     (λ c κs. search (needs, memo-lent))
     (λ c. search needs)
-    (λ c. search (needs, memo-inside))
+    (λ c. search (needs, memo-start-fits, lent-placed))
     (λ c. search needs)
     (λ c. search needs)
-    (λ c. search (needs, memo-inside))
+    (λ c. search (needs, memo-room, lent-placed))
     (λ c κs. (search (needs, memo-lent), search (needs, some-room)))
     (λ c. search (needs, absent-full))
     (λ c. search needs)

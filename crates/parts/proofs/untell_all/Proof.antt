@@ -11,11 +11,11 @@ use Rattle.parts.proofs.untell_all.Statement.{statement}
 use Rattle.parts.proofs.untell_all.Tie as tie
 
 abbrev Inv-loop : tie.InvT-loop
-Inv-loop store₀ t n touched₀ i₀ store touched i =
-    (i ≤ n) × (length store ≡ length store₀) × Telling (untold t) t store₀ store i touched
+Inv-loop store₀ t n listed₀ i₀ store listed i =
+    (i ≤ n) × (length store ≡ length store₀) × Telling (untold t) t store₀ store i listed
 
 abbrev μ-loop : tie.MeasureT-loop
-μ-loop store₀ t n touched₀ i₀ store touched i = n - i
+μ-loop store₀ t n listed₀ i₀ store listed i = n - i
 
 pub untell-all-spec : {M : Type 1} → statement M
 untell-all-spec =

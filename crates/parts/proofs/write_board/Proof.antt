@@ -2,9 +2,9 @@
 use Prim.Native.Nat.{_-_, _≤_}
 use mathlib.Core.Path.{_≡_}
 use lib.ListN.{length}
-use lib.Seq.{paste}
+use lib.Seq.{paste, paste-zero}
 use borrow.Author.Needs.{needs}
-use Rattle.parts.proofs.Opening.{opened-long, copy-none, copy-on, copy-end}
+use Rattle.parts.proofs.Opening.{opened-long, copy-on, copy-end}
 use Rattle.parts.proofs.write_board.Statement.{statement}
 use Rattle.parts.proofs.write_board.Tie as tie
 
@@ -23,7 +23,7 @@ write-board-spec =
     (λ c κs. search needs)
     (λ c. search needs)
     (λ c. search needs)
-    (λ c. (search needs, search (needs, opened-long), search (needs, opened-long), search (needs, copy-none)))
+    (λ c. (search needs, search (needs, opened-long), search (needs, opened-long), search (needs, paste-zero)))
     (λ c. search needs)
     (λ c. search needs)
     (λ c. search needs)

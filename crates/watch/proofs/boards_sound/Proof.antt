@@ -1,7 +1,8 @@
 -- `watch::boards_sound` meets its contract. The loop's invariant: the boards from i on decide. Assumes nothing.
 use Prim.Native.Nat.{_-_, _≤_}
 use borrow.Author.Needs.{needs}
-use Rattle.watch.specs.Lent.{header-long, boards-few, board-inside}
+use Rattle.rules.specs.laws.Placed.{header-long, boards-few, board-inside}
+use Rattle.query.specs.Keys.{searchable-placed}
 use Rattle.watch.proofs.Laws.{Watching, watching-all, board-off, board-on, boards-end}
 use Rattle.watch.proofs.boards_sound.Statement.{statement}
 use Rattle.watch.proofs.boards_sound.Tie as tie
@@ -18,17 +19,17 @@ boards-sound-spec =
     (tie.spec
     Inv-loop
     μ-loop
-    (λ c κs. search (needs, header-long))
+    (λ c κs. search (needs, header-long, searchable-placed))
     (λ c. (search needs, search (needs, watching-all)))
-    (λ c κs. (search needs, search (needs, board-inside)))
+    (λ c κs. (search (needs, searchable-placed), search (needs, board-inside, searchable-placed)))
     (λ c. search needs)
     (λ c. search needs)
     (λ c. search needs)
     (λ c. search needs)
     (λ c. search needs)
     (λ c κs. search needs)
-    (λ c. search (needs, board-off, board-inside))
+    (λ c. search (needs, board-off, board-inside, searchable-placed))
     (λ c. search needs)
     (λ c. search needs)
-    (λ c. (search needs, search (needs, board-on, board-inside)))
-    (λ c. search (needs, boards-end, boards-few)))
+    (λ c. (search needs, search (needs, board-on, board-inside, searchable-placed)))
+    (λ c. search (needs, boards-end, boards-few, searchable-placed)))
