@@ -114,7 +114,7 @@ module _ (w m : List ℕ) (p : ℕ) (next : Stamp) (P : Passing w m p next) (t :
   pub counters-enough : length (slots-in m) ≤ length counts
   counters-enough = rw (P .memo-is, G .counts-long) memo-fits
 
-  pub count-fits : t .count ≤ most
+  count-fits : t .count ≤ most
   count-fits = omega (arith, G .many, marked-length (store-of w .pages), P .few)
 
   pub stamps-enough : t .count ≤ length stamps

@@ -9,14 +9,14 @@ use rules::Train;
 ghost use mathlib.Core.Path.{_≡_};
 ghost use mathlib.Core.Bool.{_&&_};
 ghost use Prim.Native.Nat.{_+_, _≤_, _<_};
-ghost use lib.ListN.{length, getD, set, take};
+ghost use lib.ListN.{length, getD, set, take, drop};
 ghost use Rattle.rules.specs.Lists.{every, distinct};
 ghost use Rattle.rules.specs.Store.{store-of};
 ghost use Rattle.theorems.specs.Leaves.{marked, with-mark};
 ghost use Rattle.memo.specs.Slots.{MemoWords, slots-in};
 ghost use Rattle.page.specs.Struct.{contents};
-ghost use Rattle.sort.specs.Laws.{InOrder};
 ghost use Rattle.entries.specs.Given.{Trusted};
+ghost use Rattle.entries.specs.Apart.{flag-of, apart, Flagged};
 ghost use Rattle.entries.specs.Passes as spec;
 ghost use Rattle.entries.specs.State as state;
 
@@ -250,14 +250,21 @@ fn note_pages(
 
 // ---- keys
 
-// Keys in order are distinct if each is below the next.
-fn climbs(keys: &[u64]) -> bool
-    requires { ⌜ InOrder (now keys) ⌝ }
-    ensures { λ r. ⌜ r ≡ distinct (now (keys .entry)) ⌝ }
+// The flag of a key, one of 16,384: a product's middle bits, so that neither neighbours nor multiples often share one.
+fn flag_of(key: u64) -> usize
+    ensures { λ r. ⌜ (r ≡ flag-of key) × (r < 16384) ⌝ }
 {
-    let mut i = 0;
-    while i + 1 < keys.len() {
-        if keys[i + 1] <= keys[i] {
+    (key % 4294967296 * 3266489917 / 262144 % 16384) as usize
+}
+
+// Whether the key differs from those at `from` and later.
+fn differs(keys: &[u64], from: usize, key: u64) -> bool
+    requires { ⌜ from ≤ length (now keys) ⌝ }
+    ensures { λ r. ⌜ r ≡ apart key (drop from (now (keys .entry))) ⌝ }
+{
+    let mut i = from;
+    while i < keys.len() {
+        if keys[i] == key {
             return false;
         }
         i += 1;
@@ -265,14 +272,45 @@ fn climbs(keys: &[u64]) -> bool
     true
 }
 
-// The first n keys are distinct, found by sorting them.
-fn first_distinct(keys: &mut [u64], n: usize) -> bool
-    requires { ⌜ (n ≤ length (now keys)) × (n ≤ spec.most) ⌝ }
+// The same where the flags of those keys are set: most often the key's own is not, and no key need be looked at.
+fn is_new(flags: &[bool], keys: &[u64], from: usize, key: u64) -> bool
+    requires { ⌜ (length (now flags) ≡ 16384) × (from ≤ length (now keys)) ⌝ }
+    requires { ⌜ Flagged (now flags) (drop from (now keys)) ⌝ }
+    ensures { λ r. ⌜ r ≡ apart key (drop from (now (keys .entry))) ⌝ }
+{
+    let at = flag_of(key);
+    if !flags[at] {
+        return true;
+    }
+    differs(keys, from, key)
+}
+
+// The keys are distinct: from the last to the first, each is tried against those behind it, and its flag set. Flags that were set
+// before only cost time.
+fn all_new(keys: &[u64], flags: &mut [bool]) -> bool
+    requires { ⌜ length (now flags) ≡ 16384 ⌝ }
+    ensures { λ r. ⌜ r ≡ distinct (now (keys .entry)) ⌝ }
+{
+    let mut i = keys.len();
+    while 0 < i {
+        i -= 1;
+        let key = keys[i];
+        if !is_new(flags, keys, i + 1, key) {
+            return false;
+        }
+        let at = flag_of(key);
+        flags[at] = true;
+    }
+    true
+}
+
+// The first n keys are distinct.
+fn first_distinct(keys: &[u64], n: usize) -> bool
+    requires { ⌜ n ≤ length (now keys) ⌝ }
     ensures { λ r. ⌜ r ≡ distinct (take n (now (keys .entry))) ⌝ }
 {
-    let mut work = [0u64; MOST];
-    sort::sort(&mut keys[0..n], &mut work[0..n]);
-    climbs(&keys[0..n])
+    let mut flags = [false; 16384];
+    all_new(&keys[0..n], &mut flags)
 }
 
 // ---- the memo
@@ -331,10 +369,10 @@ fn noted_sound(store: &[u32], memo: &[u32], p: usize, next: Stamp) -> bool
         return false;
     }
     let n = t.count;
-    if !first_distinct(&mut stamps, n) {
+    if !first_distinct(&stamps, n) {
         return false;
     }
-    if !first_distinct(&mut keys, n) {
+    if !first_distinct(&keys, n) {
         return false;
     }
     slots_fine(memo, &counts, next)
