@@ -54,8 +54,8 @@ module _ (o : Orphans) (level : ℕ) (g : Page) (l : Laid g) (r : Orphans) (i : 
         record {
           counted = omega (arith, so-far .counted, ap length further, length-append (take i es) (e ∷ []));
           held =
-              rw (further, add-one (r .count), take-suc-set (r .list) (r .count) (record { level = level; place = e }) (omega (arith, room-left)), map-append, map-append, ← append-assoc)
-              (ap (λ z. z ++ (record { level = level; place = e } ∷ [])) (so-far .held));
+            rw (further, add-one (r .count), take-suc-set (r .list) (r .count) (record { level = level; place = e }) (omega (arith, room-left)), map-append, map-append, ← append-assoc)
+            (ap (λ z. z ++ (record { level = level; place = e } ∷ [])) (so-far .held));
         }
 
   pub all-added : g .count ≤ i → Added o level es r
