@@ -13,7 +13,9 @@ use Rattle.rules.specs.Lists.{every, distinct}
 use Rattle.rules.specs.laws.Tests.{not-both}
 use Rattle.rules.specs.laws.All.{All, none, more, all-map, all-every}
 use Rattle.rules.specs.laws.Lists.{length-zero, Distinct, d-none, d-more, distinct-holds, distinct-test}
-use Rattle.entries.specs.Apart.{flag-of, apart, Flagged}
+use Rattle.entries.specs.Apart.{flag-of, apart, Flagged, Says}
+use Rattle.entries.specs.declared.Told.{Told}
+use Rattle.entries.specs.declared.Told.the-variants.{Apart, Equal, Crowded}
 use Rattle.entries.specs.Decided.{both-ways}
 
 pub flag-is : (k : ℕ) → k % 4_294_967_296 * 3_266_489_917 / 262_144 % 16_384 ≡ flag-of k
@@ -109,9 +111,24 @@ module _ (keys : List ℕ) (i : ℕ) (some : 0 < i) (most : i ≤ length keys) w
       let own : getD (set flags at true) (flag-of (getD keys (i - 1) 0)) false ≡ true = rw (← e) (getD-set-same flags at true false l) in
       rw here (more own (all-map f λ k h. still-set flags at (flag-of k) l h))
 
-pub part-distinct : (keys : List ℕ) (n : ℕ) (r : Bool) → r ≡ distinct (take (n - 0) (drop 0 keys)) → r ≡ distinct (take n keys)
-part-distinct keys n r e = let z : n - 0 ≡ n = omega arith in rw z at e
-
 pub all-distinct : (keys : List ℕ) (i : ℕ) → i ≤ 0 → distinct (drop i keys) ≡ true → true ≡ distinct keys
 all-distinct keys zero h d = sym d
 all-distinct keys (suc i) h d = absurd (omega arith)
+
+-- ---- what is said
+module _ (b : Bool) where
+  pub says-apart : true ≡ b → Says Apart b
+  says-apart e = record { settled = λ q. e }
+
+  pub says-equal : false ≡ b → Says Equal b
+  says-equal e = record { settled = λ q. e }
+
+  pub says-nothing : Says Crowded b
+  says-nothing = record { settled = λ (q : true ≡ false). absurd (true≢false q) }
+
+module _ (keys : List ℕ) (n : ℕ) (r : Told) (s : Says r (distinct (take (n - 0) (drop 0 keys)))) where
+  pub so-apart : r ≡ Apart → true ≡ distinct (take n keys)
+  so-apart e = let z : n - 0 ≡ n = omega arith in (rw (e, z) at s) .settled refl
+
+  pub so-equal : r ≡ Equal → false ≡ distinct (take n keys)
+  so-equal e = let z : n - 0 ≡ n = omega arith in (rw (e, z) at s) .settled refl

@@ -1,4 +1,5 @@
 pub mod Tests
+pub mod Keys
 pub mod Apart
 pub mod Slots
 pub mod Marks

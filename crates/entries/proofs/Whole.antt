@@ -1,5 +1,5 @@
 -- All passes together: what is known at each, and what each way out says of the whole. Assumes nothing.
-use Prim.Native.Nat.{ℕ, _+_, _*_, _-_, _≤_, _<_}
+use Prim.Native.Nat.{ℕ, _+_, _*_, _≤_, _<_}
 use native.Mathlib.Omega.{arith}
 use mathlib.Core.Path.{_≡_, sym, _∙_, ap}
 use mathlib.Core.Bool.{Bool, true, false, not, and-true}
@@ -114,7 +114,7 @@ module _ (w m : List ℕ) (p : ℕ) (next : Stamp) (P : Passing w m p next) (t :
   pub counters-enough : length (slots-in m) ≤ length counts
   counters-enough = rw (P .memo-is, G .counts-long) memo-fits
 
-  count-fits : t .count ≤ most
+  pub count-fits : t .count ≤ most
   count-fits = omega (arith, G .many, marked-length (store-of w .pages), P .few)
 
   pub stamps-enough : t .count ≤ length stamps

@@ -15,8 +15,9 @@ ghost use Rattle.rules.specs.Store.{store-of};
 ghost use Rattle.theorems.specs.Leaves.{marked, with-mark};
 ghost use Rattle.memo.specs.Slots.{MemoWords, slots-in};
 ghost use Rattle.page.specs.Struct.{contents};
+ghost use Rattle.sort.specs.Laws.{InOrder};
 ghost use Rattle.entries.specs.Given.{Trusted};
-ghost use Rattle.entries.specs.Apart.{flag-of, apart, Flagged};
+ghost use Rattle.entries.specs.Apart.{flag-of, apart, Flagged, Says};
 ghost use Rattle.entries.specs.Passes as spec;
 ghost use Rattle.entries.specs.State as state;
 
@@ -285,32 +286,81 @@ fn is_new(flags: &[bool], keys: &[u64], from: usize, key: u64) -> bool
     differs(keys, from, key)
 }
 
-// The keys are distinct: from the last to the first, each is tried against those behind it, and its flag set. Flags that were set
-// before only cost time.
-fn all_new(keys: &[u64], flags: &mut [bool]) -> bool
-    requires { ⌜ length (now flags) ≡ 16384 ⌝ }
-    ensures { λ r. ⌜ r ≡ distinct (now (keys .entry)) ⌝ }
+// What flags tell of keys: that all differ, that two are equal, or nothing, where too many share a flag for the rest to pay.
+enum Told {
+    Apart,
+    Equal,
+    Crowded,
+}
+
+fn count_if(b: bool) -> usize
+    ensures { λ r. ⌜ r ≤ 1 ⌝ }
 {
+    if b {
+        return 1;
+    }
+    0
+}
+
+// From the last key to the first each is tried against those behind it, and its flag set. Flags that were set before only cost time.
+fn all_new(keys: &[u64], flags: &mut [bool]) -> Told
+    requires { ⌜ length (now flags) ≡ 16384 ⌝ }
+    ensures { λ r. ⌜ Says r (distinct (now (keys .entry))) ⌝ }
+{
+    let mut shared = 0;
     let mut i = keys.len();
     while 0 < i {
         i -= 1;
         let key = keys[i];
+        let at = flag_of(key);
+        shared += count_if(flags[at]);
+        if 64 < shared {
+            return Told::Crowded;
+        }
         if !is_new(flags, keys, i + 1, key) {
+            return Told::Equal;
+        }
+        flags[at] = true;
+    }
+    Told::Apart
+}
+
+// Keys in order are distinct if each is below the next.
+fn climbs(keys: &[u64]) -> bool
+    requires { ⌜ InOrder (now keys) ⌝ }
+    ensures { λ r. ⌜ r ≡ distinct (now (keys .entry)) ⌝ }
+{
+    let mut i = 0;
+    while i + 1 < keys.len() {
+        if keys[i + 1] <= keys[i] {
             return false;
         }
-        let at = flag_of(key);
-        flags[at] = true;
+        i += 1;
     }
     true
 }
 
-// The first n keys are distinct.
-fn first_distinct(keys: &[u64], n: usize) -> bool
-    requires { ⌜ n ≤ length (now keys) ⌝ }
+// The first n keys are distinct, found by sorting them.
+fn sorted_distinct(keys: &mut [u64], n: usize) -> bool
+    requires { ⌜ (n ≤ length (now keys)) × (n ≤ spec.most) ⌝ }
+    ensures { λ r. ⌜ r ≡ distinct (take n (now (keys .entry))) ⌝ }
+{
+    let mut work = [0u64; MOST];
+    sort::sort(&mut keys[0..n], &mut work[0..n]);
+    climbs(&keys[0..n])
+}
+
+// The same, found by flags where they tell: few of some hundred keys share one, and keys made to share many are sorted.
+fn first_distinct(keys: &mut [u64], n: usize) -> bool
+    requires { ⌜ (n ≤ length (now keys)) × (n ≤ spec.most) ⌝ }
     ensures { λ r. ⌜ r ≡ distinct (take n (now (keys .entry))) ⌝ }
 {
     let mut flags = [false; 16384];
-    all_new(&keys[0..n], &mut flags)
+    match all_new(&keys[0..n], &mut flags) {
+        Told::Apart => true,
+        Told::Equal => false,
+        Told::Crowded => sorted_distinct(keys, n),
+    }
 }
 
 // ---- the memo
@@ -369,10 +419,10 @@ fn noted_sound(store: &[u32], memo: &[u32], p: usize, next: Stamp) -> bool
         return false;
     }
     let n = t.count;
-    if !first_distinct(&stamps, n) {
+    if !first_distinct(&mut stamps, n) {
         return false;
     }
-    if !first_distinct(&keys, n) {
+    if !first_distinct(&mut keys, n) {
         return false;
     }
     slots_fine(memo, &counts, next)

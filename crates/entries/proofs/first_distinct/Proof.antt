@@ -1,6 +1,6 @@
--- `entries::first_distinct` meets its contract. Assumes nothing.
+-- `entries::first_distinct` meets its contract, each way out by what the flags tell. Assumes nothing.
 use borrow.Author.Needs.{needs}
-use Rattle.entries.proofs.Apart.{part-distinct}
+use Rattle.entries.proofs.Apart.{so-apart, so-equal}
 use Rattle.entries.proofs.first_distinct.Statement.{statement}
 use Rattle.entries.proofs.first_distinct.Tie as tie
 
@@ -13,4 +13,13 @@ first-distinct-spec =
     (λ c. search needs)
     (λ c. search needs)
     (λ c κs. search needs)
-    (λ c. search (needs, part-distinct)))
+    (λ c. search needs)
+    (λ c. search needs)
+    (λ c. search needs)
+    (λ c κs. search needs)
+    (λ c. search needs)
+    (λ c. search (needs, so-apart))
+    (λ c. search needs)
+    (λ c. search (needs, so-equal))
+    (λ c. search needs)
+    (λ c. search needs))

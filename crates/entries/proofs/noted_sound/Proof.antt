@@ -1,6 +1,6 @@
 -- `entries::noted_sound` meets its contract, each way out by what is gathered.
 use borrow.Author.Needs.{needs}
-use Rattle.entries.proofs.Whole.{counters-enough, stamps-enough, keys-enough, entry-broken, stamps-equal, keys-equal, by-slots}
+use Rattle.entries.proofs.Whole.{counters-enough, count-fits, stamps-enough, keys-enough, entry-broken, stamps-equal, keys-equal, by-slots}
 use Rattle.entries.proofs.noted_sound.Statement.{statement}
 use Rattle.entries.proofs.noted_sound.Tie as tie
 
@@ -14,10 +14,10 @@ noted-sound-spec =
     (λ c κs. search needs)
     (λ c. search (needs, entry-broken))
     (λ c. search needs)
-    (λ c κs. search (needs, stamps-enough))
+    (λ c κs. search (needs, stamps-enough, count-fits))
     (λ c. search (needs, stamps-equal))
     (λ c. search needs)
-    (λ c κs. search (needs, keys-enough))
+    (λ c κs. search (needs, keys-enough, count-fits))
     (λ c. search (needs, keys-equal))
     (λ c. search needs)
     (λ c κs. search (needs, counters-enough))
