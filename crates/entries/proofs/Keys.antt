@@ -82,5 +82,5 @@ module _ (keys ys rest : List ℕ) (n : ℕ) (fits : n ≤ length keys) (done : 
   pub part-in-order : InOrder (take (n - 0) (ys ++ rest))
   part-in-order = rw part-sorted (sorted-in-order (take n keys))
 
-  pub part-distinct : (r : Bool) → r ≡ distinct (take (n - 0) (ys ++ rest)) → r ≡ distinct (take n keys)
-  part-distinct r e = e ∙ ap distinct part-sorted ∙ sorted-distinct (take n keys)
+  pub sorted-part-distinct : (r : Bool) → r ≡ distinct (take (n - 0) (ys ++ rest)) → r ≡ distinct (take n keys)
+  sorted-part-distinct r e = e ∙ ap distinct part-sorted ∙ sorted-distinct (take n keys)

@@ -1,5 +1,6 @@
 pub mod Tests
 pub mod Keys
+pub mod Apart
 pub mod Slots
 pub mod Marks
 pub mod Gather

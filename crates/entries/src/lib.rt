@@ -9,7 +9,7 @@ use rules::Train;
 ghost use mathlib.Core.Path.{_≡_};
 ghost use mathlib.Core.Bool.{_&&_};
 ghost use Prim.Native.Nat.{_+_, _≤_, _<_};
-ghost use lib.ListN.{length, getD, set, take};
+ghost use lib.ListN.{length, getD, set, take, drop};
 ghost use Rattle.rules.specs.Lists.{every, distinct};
 ghost use Rattle.rules.specs.Store.{store-of};
 ghost use Rattle.theorems.specs.Leaves.{marked, with-mark};
@@ -17,6 +17,7 @@ ghost use Rattle.memo.specs.Slots.{MemoWords, slots-in};
 ghost use Rattle.page.specs.Struct.{contents};
 ghost use Rattle.sort.specs.Laws.{InOrder};
 ghost use Rattle.entries.specs.Given.{Trusted};
+ghost use Rattle.entries.specs.Apart.{flag-of, apart, Flagged, Says};
 ghost use Rattle.entries.specs.Passes as spec;
 ghost use Rattle.entries.specs.State as state;
 
@@ -250,6 +251,80 @@ fn note_pages(
 
 // ---- keys
 
+// The flag of a key, one of 16,384: a product's middle bits, so that neither neighbours nor multiples often share one.
+fn flag_of(key: u64) -> usize
+    ensures { λ r. ⌜ (r ≡ flag-of key) × (r < 16384) ⌝ }
+{
+    (key % 4294967296 * 3266489917 / 262144 % 16384) as usize
+}
+
+// Whether the key differs from those at `from` and later.
+fn differs(keys: &[u64], from: usize, key: u64) -> bool
+    requires { ⌜ from ≤ length (now keys) ⌝ }
+    ensures { λ r. ⌜ r ≡ apart key (drop from (now (keys .entry))) ⌝ }
+{
+    let mut i = from;
+    while i < keys.len() {
+        if keys[i] == key {
+            return false;
+        }
+        i += 1;
+    }
+    true
+}
+
+// The same where the flags of those keys are set: most often the key's own is not, and no key need be looked at.
+fn is_new(flags: &[bool], keys: &[u64], from: usize, key: u64) -> bool
+    requires { ⌜ (length (now flags) ≡ 16384) × (from ≤ length (now keys)) ⌝ }
+    requires { ⌜ Flagged (now flags) (drop from (now keys)) ⌝ }
+    ensures { λ r. ⌜ r ≡ apart key (drop from (now (keys .entry))) ⌝ }
+{
+    let at = flag_of(key);
+    if !flags[at] {
+        return true;
+    }
+    differs(keys, from, key)
+}
+
+// What flags tell of keys: that all differ, that two are equal, or nothing, where too many share a flag for the rest to pay.
+enum Told {
+    Apart,
+    Equal,
+    Crowded,
+}
+
+fn count_if(b: bool) -> usize
+    ensures { λ r. ⌜ r ≤ 1 ⌝ }
+{
+    if b {
+        return 1;
+    }
+    0
+}
+
+// From the last key to the first each is tried against those behind it, and its flag set. Flags that were set before only cost time.
+fn all_new(keys: &[u64], flags: &mut [bool]) -> Told
+    requires { ⌜ length (now flags) ≡ 16384 ⌝ }
+    ensures { λ r. ⌜ Says r (distinct (now (keys .entry))) ⌝ }
+{
+    let mut shared = 0;
+    let mut i = keys.len();
+    while 0 < i {
+        i -= 1;
+        let key = keys[i];
+        let at = flag_of(key);
+        shared += count_if(flags[at]);
+        if 64 < shared {
+            return Told::Crowded;
+        }
+        if !is_new(flags, keys, i + 1, key) {
+            return Told::Equal;
+        }
+        flags[at] = true;
+    }
+    Told::Apart
+}
+
 // Keys in order are distinct if each is below the next.
 fn climbs(keys: &[u64]) -> bool
     requires { ⌜ InOrder (now keys) ⌝ }
@@ -266,13 +341,26 @@ fn climbs(keys: &[u64]) -> bool
 }
 
 // The first n keys are distinct, found by sorting them.
-fn first_distinct(keys: &mut [u64], n: usize) -> bool
+fn sorted_distinct(keys: &mut [u64], n: usize) -> bool
     requires { ⌜ (n ≤ length (now keys)) × (n ≤ spec.most) ⌝ }
     ensures { λ r. ⌜ r ≡ distinct (take n (now (keys .entry))) ⌝ }
 {
     let mut work = [0u64; MOST];
     sort::sort(&mut keys[0..n], &mut work[0..n]);
     climbs(&keys[0..n])
+}
+
+// The same, found by flags where they tell: few of some hundred keys share one, and keys made to share many are sorted.
+fn first_distinct(keys: &mut [u64], n: usize) -> bool
+    requires { ⌜ (n ≤ length (now keys)) × (n ≤ spec.most) ⌝ }
+    ensures { λ r. ⌜ r ≡ distinct (take n (now (keys .entry))) ⌝ }
+{
+    let mut flags = [false; 16384];
+    match all_new(&keys[0..n], &mut flags) {
+        Told::Apart => true,
+        Told::Equal => false,
+        Told::Crowded => sorted_distinct(keys, n),
+    }
 }
 
 // ---- the memo

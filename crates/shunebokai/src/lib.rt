@@ -10,6 +10,14 @@ pub extern "C" fn shunebokai_start(p: u32, k: u32, b: u32, store: &mut [u32]) ->
     index::start(p, k, b, store)
 }
 
+// Two words of answers a step: its number and its count.
+#[no_mangle]
+pub extern "C" fn shunebokai_run(store: &mut [u32], steps: &[u32], answers: &mut [u32]) -> u32
+    ensures { λ r. ⌜ calls.run-call (now (store .entry)) (now (steps .entry)) (now (answers .entry)) ≡ record { number = r; store = now (store .exit); answers = now (answers .exit) } ⌝ }
+{
+    index::run(store, steps, answers)
+}
+
 // The row count goes to `count`; refused, it is 0.
 #[no_mangle]
 pub extern "C" fn shunebokai_query(

@@ -1,18 +1,8 @@
--- `entries::first_distinct` meets its contract: sorted, the first n keys are distinct if they climb.
+-- `entries::first_distinct` meets its contract, each way out by what the flags tell. Assumes nothing.
 use borrow.Author.Needs.{needs}
-use Rattle.entries.proofs.Keys.{part-in-order, part-distinct}
+use Rattle.entries.proofs.Apart.{so-apart, so-equal}
 use Rattle.entries.proofs.first_distinct.Statement.{statement}
 use Rattle.entries.proofs.first_distinct.Tie as tie
-
-climbs-requires : tie.Need-climbs-requires
-climbs-requires c κs =
-    let done = c .before .before .before .before .before in
-    part-in-order _ _ _ _ (done .before .before .before .before .pre .0) (done .sort .ensures .0)
-
-returns : tie.Need-returns
-returns c =
-    let done = c .before .before .before .before .before .before in
-    part-distinct _ _ _ _ (done .before .before .before .before .pre .0) (done .sort .ensures .0) _ (c .climbs .ensures)
 
 pub first-distinct-spec : {M : Type 1} → statement M
 first-distinct-spec =
@@ -22,12 +12,14 @@ first-distinct-spec =
     (λ c. search needs)
     (λ c. search needs)
     (λ c. search needs)
-    (λ c. search needs)
-    (λ c. search needs)
     (λ c κs. search needs)
     (λ c. search needs)
     (λ c. search needs)
     (λ c. search needs)
-    climbs-requires
+    (λ c κs. search needs)
     (λ c. search needs)
-    returns)
+    (λ c. search (needs, so-apart))
+    (λ c. search needs)
+    (λ c. search (needs, so-equal))
+    (λ c. search needs)
+    (λ c. search needs))
