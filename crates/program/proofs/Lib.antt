@@ -1,0 +1,4 @@
+pub mod Boards
+pub mod Running
+pub mod Starting
+pub mod FirstLine

@@ -1,0 +1,2 @@
+-- What the parts of the program require and promise.
+pub mod Parts
