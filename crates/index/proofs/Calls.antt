@@ -15,6 +15,7 @@ use Rattle.rules.specs.Boxes.{proper-window}
 use Rattle.rules.specs.Store.{board-at, row-words, board-of, store-of}
 use Rattle.rules.specs.Live.{rows-in}
 use Rattle.rules.specs.Boards.{is-open}
+use Rattle.rules.specs.Sound.{sound-words}
 use Rattle.rules.specs.Numbers.{Refusal, first-met}
 use Rattle.rules.specs.Calls.{store-tests, query-number, queried-by, query-call, board-test, board-rows}
 use Rattle.rules.specs.laws.Numbers.{Numbered, unmet, met-first, none-met}
@@ -33,15 +34,18 @@ module _ (v : List ℕ) (number : ℕ) (judged : number ≡ first-met (store-tes
   unfolding store-tests
   numbered = omega arith
 
-  refused : (number ≡ 0 → ⊥) → (qs : List Refusal) → first-met (store-tests v ++ qs) ≡ number
+  pub refused : (number ≡ 0 → ⊥) → (qs : List Refusal) → first-met (store-tests v ++ qs) ≡ number
   refused h qs = met-first (store-tests v) qs (λ e. h (judged ∙ e)) ∙ sym judged
 
-  passed : number ≡ 0 → (qs : List Refusal) → first-met (store-tests v ++ qs) ≡ first-met qs
+  pub passed : number ≡ 0 → (qs : List Refusal) → first-met (store-tests v ++ qs) ≡ first-met qs
   passed e qs = none-met (store-tests v) qs numbered (sym judged ∙ e)
 
-  pub searchable : number ≡ 0 → Searchable v
+  pub sound-judged : number ≡ 0 → sound-words v ≡ true
   unfolding store-tests
-  searchable e = sound-searchable v (not-false _ (unmet (store-tests v) numbered (sym judged ∙ e) .1 .1 .1 .0))
+  sound-judged e = not-false _ (unmet (store-tests v) numbered (sym judged ∙ e) .1 .1 .1 .0)
+
+  pub searchable : number ≡ 0 → Searchable v
+  searchable e = sound-searchable v (sound-judged e)
 
   pub placed : number ≡ 0 → Placed v
   placed e = searchable-placed v (searchable e)

@@ -1,5 +1,5 @@
 -- A run under way: what the steps that are left do from here is what all of them do from the start.
-use Prim.Native.Nat.{ℕ, suc, _+_, _-_, _*_, _≤_, _<_}
+use Prim.Native.Nat.{ℕ, suc, _+_, _-_, _*_, _/_, _≤_, _<_}
 use native.Mathlib.Omega.{arith}
 use native.Mathlib.Numerals.{add-one}
 use mathlib.Core.Path.{_≡_, refl, sym, _∙_, ap, ap₂}
@@ -26,6 +26,11 @@ pub record Running (s : Store) (v : List ℕ) (n i : ℕ) (w : List ℕ) (h : �
   pub store : run (store-of w) (steps-from n i v) .store ≡ run s (map step-of (cut n 6 v)) .store
   pub answered : take (2 * i) answers ++ run (store-of w) (steps-from n i v) .answers ≡ run s (map step-of (cut n 6 v)) .answers
 
+-- what a run of all the steps in v leaves in the lent store w and in the answers
+pub record RanAll (w v w′ answers : List ℕ) : Type 0 where
+  pub stored : w′ ≡ words (run (store-of w) (map step-of (cut (length v / 6) 6 v)) .store)
+  pub answered : answers ≡ run (store-of w) (map step-of (cut (length v / 6) 6 v)) .answers
+
 -- before the first step
 pub running-first : (w v answers : List ℕ) (n h : ℕ) → Given w h → length answers ≡ 2 * n → Running (store-of w) v n 0 w h answers
 running-first w v answers n h g l =
@@ -34,20 +39,24 @@ running-first w v answers n h g l =
     record { given = g; most = omega arith; long = l; store = rw same; answered = rw same }
 
 module _ (s : Store) (v : List ℕ) (n i : ℕ) (w : List ℕ) (h : ℕ) (answers : List ℕ) (r : Running s v n i w h answers) where
+  -- each step has its two words
+  pub second-inside : i < n → (x : ℕ) → 2 * i + 1 < length (set answers (2 * i) x)
+  second-inside h x = omega (arith, length-set answers (2 * i) x, r .long)
+
   -- after the last one
   module _ (done : n ≤ i) where
     none-left : steps-from n i v ≡ []
     unfolding cut
     none-left = let e : n - i ≡ 0 = omega arith in rw e
 
-    pub run-stored : w ≡ words (run s (map step-of (cut n 6 v)) .store)
+    run-stored : w ≡ words (run s (map step-of (cut n 6 v)) .store)
     unfolding run
     run-stored = sym (r .given .written) ∙ ap words (rw none-left at (r .store))
 
-    pub run-answered : answers ≡ run s (map step-of (cut n 6 v)) .answers
+    run-answered : answers ≡ run s (map step-of (cut n 6 v)) .answers
     unfolding run
     run-answered =
-        let z = rw (none-left, append-nil, take-all (2 * i) answers (omega (arith, r .long))) at (r .answered) in z
+        rw (none-left, append-nil, take-all (2 * i) answers (omega (arith, r .long))) at (r .answered)
 
   -- a step more
   module _ (inside : i < n) (a : ℕ) (at : a ≡ 6 * i) (x : Step) (read : x ≡ step-of (take (a + 6 - a) (drop a v))) where
@@ -92,3 +101,11 @@ module _ (s : Store) (v : List ℕ) (n i : ℕ) (w : List ℕ) (h : ℕ) (answer
                 ∙ sym (ap (λ z. take (2 * i) answers ++ z .answers) left)
                 ∙ r .answered;
           }
+
+-- so all have been run
+pub ran-all : (w₀ v : List ℕ) (n i : ℕ) (w : List ℕ) (h : ℕ) (answers : List ℕ) → n ≡ length v / 6 → Running (store-of w₀) v n i w h answers → n ≤ i → RanAll w₀ v w answers
+ran-all w₀ v n i w h answers e r done =
+    record {
+      stored = rw e at (run-stored (store-of w₀) v n i w h answers r done);
+      answered = rw e at (run-answered (store-of w₀) v n i w h answers r done);
+    }

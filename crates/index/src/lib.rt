@@ -1,13 +1,16 @@
 // The public calls. Each tests its own input, answers by the table of numbers and asks nothing of its caller.
 use rules::Window;
 ghost use mathlib.Core.Path.{_≡_};
-ghost use Prim.Native.Nat.{_≤_};
+ghost use mathlib.Core.Bool.{true};
+ghost use Prim.Native.Nat.{_*_, _/_, _≤_};
 ghost use lib.ListN.{length, getD};
 ghost use Rattle.rules.specs.Lists.{padded};
+ghost use Rattle.rules.specs.Sound.{sound-words};
 ghost use Rattle.rules.specs.Calls as calls;
 ghost use Rattle.index.specs.Fresh.{first-words};
 ghost use Rattle.index.specs.Answers.{Answered};
 ghost use Rattle.index.specs.Rows.{board-part};
+ghost use Rattle.index.specs.Running.{RanAll};
 
 // ---- start
 
@@ -76,6 +79,48 @@ pub fn start(p: u32, k: u32, b: u32, store: &mut [u32]) -> u32
     }
     let first = first_words(p, k, b);
     fill(store, first);
+    0
+}
+
+// ---- run
+
+// The steps, one after the other, each answered by its number and its count. The entries held are counted once, before the first.
+fn run_all(store: &mut [u32], steps: &[u32], answers: &mut [u32])
+    requires { ⌜ sound-words (now store) ≡ true ⌝ }
+    requires { ⌜ length (now answers) ≡ 2 * (length (now steps) / 6) ⌝ }
+    ensures { λ _. ⌜ RanAll (now (store .entry)) (now (steps .entry)) (now (store .exit)) (now (answers .exit)) ⌝ }
+{
+    let n = steps.len() / 6;
+    let mut held = page::held_entries(store, header::pages(store));
+    let mut i = 0;
+    while i < n {
+        let a = 6 * i;
+        let e = a + 6;
+        let x = steps::step_of(&steps[a..e]);
+        let done = steps::step(store, x, held);
+        let j = 2 * i;
+        answers[j] = done.number;
+        answers[j + 1] = done.count;
+        held = done.held;
+        i += 1;
+    }
+}
+
+// Runs the steps, six words each, on the store, which is judged once; refused, every slice is untouched.
+pub fn run(store: &mut [u32], steps: &[u32], answers: &mut [u32]) -> u32
+    ensures { λ r. ⌜ calls.run-call (now (store .entry)) (now (steps .entry)) (now (answers .entry)) ≡ record { number = r; store = now (store .exit); answers = now (answers .exit) } ⌝ }
+{
+    let number = judge::judge(store);
+    if number != 0 {
+        return number;
+    }
+    if steps.len() % 6 != 0 {
+        return 4;
+    }
+    if answers.len() != 2 * (steps.len() / 6) {
+        return 5;
+    }
+    run_all(store, steps, answers);
     0
 }
 

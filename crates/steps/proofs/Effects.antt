@@ -33,9 +33,8 @@ use Rattle.rules.specs.laws.Tests.{and-right}
 use Rattle.rules.specs.laws.All.{All, all-map}
 use Rattle.rules.specs.laws.Counts.{count-left}
 use Rattle.rules.specs.laws.Boards.{touched-told}
-use Rattle.rules.specs.laws.Rows.{RowsAscend, no-one}
+use Rattle.rules.specs.laws.Rows.{no-one}
 use Rattle.rules.specs.laws.Parts.{with-memo, with-boards, with-header}
-use Rattle.rules.specs.theorems.Query.{rows-ascend}
 use Rattle.theorems.specs.Accepted.{TakesStamp, AcceptedReport}
 use Rattle.theorems.specs.Stamped.{stamped}
 use Rattle.tree.specs.Putting.{Grown, with-tree}
@@ -168,9 +167,6 @@ close-effect w x w′ b = record { became = b; counted = refl }
 module _ (w : List ℕ) (x : Step) (z : Window) (its : z ≡ its-window x) (keys work : List ℕ) (n : ℕ) (keys′ work′ : List ℕ) (f : Found (store-of w) z keys work n keys′ work′) where
   pub rows-many : n ≡ length (rows-in (store-of w) (its-window x))
   rows-many = rw its at (f .many)
-
-  pub rows-listed : RowsAscend (map (row-of-key (store-of w .pages)) (take n keys′))
-  rows-listed = rw (f .rows) (rows-ascend (store-of w) z)
 
   pub open-effect : (w′ : List ℕ) → Became (with-boards (store-of w) (set (store-of w .boards) (x .a) (opened z (map (row-of-key (store-of w .pages)) (take n keys′))))) w′
       → Effected (open-board (store-of w) x) w′ n

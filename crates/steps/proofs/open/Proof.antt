@@ -1,9 +1,9 @@
 -- `steps::open` meets its contract. Assumes nothing.
 use borrow.Author.Needs.{needs}
 use Rattle.query.specs.Keys.{sound-searchable}
-use Rattle.parts.specs.Laws.{sound-lent}
+use Rattle.parts.specs.Laws.{sound-lent, found-ascend}
 use Rattle.steps.specs.Stepping.{given-sound}
-use Rattle.steps.proofs.Effects.{rows-many, rows-listed, open-effect}
+use Rattle.steps.proofs.Effects.{rows-many, open-effect}
 use Rattle.steps.proofs.Ways.{open-refused, open-overfull, open-inside, open-done}
 use Rattle.steps.proofs.open.Statement.{statement}
 use Rattle.steps.proofs.open.Tie as tie
@@ -34,7 +34,7 @@ open-board-requires c κs =
     let inside = open-inside _ _ _ (given .0) (given .1 .0) (given .1 .1) _ (tried .before .open-number .ensures) (tried .if1 .left) _ many (room .if2 .left) in
     (
       (sound-lent _ sound, sound-searchable _ sound, inside),
-      (search needs, room .if2 .left, rows-listed _ x _ (asked .window-of .ensures) _ _ _ _ _ (found .find .ensures)),
+      (search needs, room .if2 .left, found-ascend (found .find .ensures)),
     )
 
 returns-3 : tie.Need-returns-3
