@@ -13,7 +13,8 @@ const HELP: &str = "\
 second: the independent second program of the train index
 
 second           read an input from standard input and print its output
-second --words   the same, then one line with all words of the store
+second --words   the same, then one line with all words of the store, if
+                 one was started
 second --check   the same output; test every step against the rules, and on
                  a violation say what and at which line and exit with 1
 second --make PROFILE SEED [STEPS]
@@ -134,7 +135,7 @@ fn print(bytes: &[u8]) -> io::Result<()> {
 
 fn with_words(transcript: Transcript) -> String {
     let mut output = transcript.output;
-    if let Ending::Complete(store) = transcript.ending {
+    if let Ending::Complete(store) | Ending::Cut(store) = transcript.ending {
         let words = words_of(&store);
         let decimals: Vec<String> = words.iter().map(u32::to_string).collect();
         output.push_str(&decimals.join(" "));

@@ -30,7 +30,9 @@ impl Watcher for NoWatcher {
 pub enum Ending {
     /// After the last line, with the store as it then was.
     Complete(Box<Store>),
-    /// With a bad line, a refused start or a text too long.
+    /// With a bad line behind the first, and the store as the lines before it left it.
+    Cut(Box<Store>),
+    /// Without a store: a text too long, a bad first line or a refused start.
     Early,
     /// With a complaint of the watcher at this line.
     Complaint { line: usize, what: String },
@@ -74,7 +76,10 @@ fn run_lines(
     let mut store = run_start(first, output)?;
     complain_at(1, watcher.started(&store))?;
     for (number, line) in lines {
-        let words = numbers(line).ok_or_else(|| bad_line(number, output))?;
+        let Some(words) = numbers(line) else {
+            print_bad_line(number, output);
+            return Err(Ending::Cut(Box::new(store)));
+        };
         let answer = store.step(words);
         let [kind, told, count] = [words[0], answer.number, answer.count];
         print(output, format_args!("{kind} {told} {count}"));
@@ -84,16 +89,18 @@ fn run_lines(
 }
 
 fn run_start(line: &[u8], output: &mut String) -> Result<Store, Ending> {
-    let counts = numbers(line).ok_or_else(|| bad_line(1, output))?;
+    let counts = numbers(line).ok_or_else(|| {
+        print_bad_line(1, output);
+        Ending::Early
+    })?;
     let shape = Shape::new(counts);
     let number = shape.map_or_else(|refusal| refusal as u32, |_| 0);
     print(output, format_args!("start {number}"));
     shape.map(Store::fresh).map_err(|_| Ending::Early)
 }
 
-fn bad_line(number: usize, output: &mut String) -> Ending {
+fn print_bad_line(number: usize, output: &mut String) {
     print(output, format_args!("bad line {number}"));
-    Ending::Early
 }
 
 fn complain_at(line: usize, verdict: Result<(), String>) -> Result<(), Ending> {

@@ -51,9 +51,15 @@ fn words_come_in_one_line_after_the_output() {
 }
 
 #[test]
-fn no_words_without_a_store_or_after_a_bad_line() {
+fn words_after_a_bad_line_are_those_of_the_lines_before_it() {
+    let whole = printed(&["--words"], INPUT);
+    let cut = printed(&["--words"], &[INPUT, b"x"].concat());
+    assert_eq!(whole.lines().last(), cut.lines().last());
+}
+
+#[test]
+fn no_words_without_a_store() {
     assert_eq!(printed(&["--words"], b"0 1 1\n"), "start 1\n");
-    assert_eq!(printed(&["--words"], b"1 1 1\nx"), "start 0\nbad line 2\n");
     assert_eq!(printed(&["--words"], b""), "bad line 1\n");
     assert_eq!(printed(&["--words"], &[b'0'; 70_000]), "too long\n");
 }

@@ -1,24 +1,28 @@
 -- What a start in a store of the right length comes to, and the first line. Assumes nothing.
-use Prim.Native.Nat.{ℕ, _-_}
+use Prim.Native.Nat.{ℕ, _+_, _-_, _≤_}
 use native.Mathlib.Omega.{arith}
 use mathlib.Core.Path.{_≡_, refl, sym, _∙_, ap}
 use mathlib.Core.Bool.{Bool, true, false}
-use mathlib.Core.List.{List, map}
+use mathlib.Core.List.{List, [], map}
 use lib.Dec.{eqb}
-use lib.ListN.{length}
+use lib.ListN.{length, take, drop}
+use lib.Seq.{length-take-le}
+use borrow.Rule.Slice.PartMut.{putMid}
 use borrow.Author.Tests.{eq-eqb}
 use Rattle.rules.specs.Store.{words, store-of, store-length, fresh}
 use Rattle.rules.specs.Sound.{sizes-in-range}
 use Rattle.rules.specs.Numbers.{first-met}
 use Rattle.rules.specs.Steps.{step-of, run}
 use Rattle.rules.specs.Calls.{Started, start-number, started-by, start}
+use Rattle.rules.specs.laws.Lists.{length-zero}
 use Rattle.rules.specs.theorems.Fresh.{fresh-sound}
 use Rattle.rules.specs.theorems.WordsAndBack.{words-read, sound-in-range, words-accepted}
 use Rattle.text.specs.Reading.{steps-in}
 use Rattle.text.specs.Printing.{start-line}
 use Rattle.text.specs.Program.{steps-printed, start-printed}
 use Rattle.text.specs.Laid.{Laid, both-laid}
-use Rattle.program.specs.Parts.{Accepted, store-room, store-left}
+use Rattle.program.specs.Parts.{Accepted, store-room}
+use Rattle.program.specs.Left.{started-left}
 
 module _ (p k b : ℕ) (w : List ℕ) (long : length w ≡ store-room p k b) (number : ℕ) (w′ : List ℕ) (call : start p k b w ≡ record { number = number; store = w′ }) where
   -- what the start answers, by whether the sizes are in range
@@ -66,10 +70,18 @@ module _ (p k b : ℕ) (w : List ℕ) (long : length w ≡ store-room p k b) (nu
   pub start-accepted : number ≡ 0 → Accepted w′
   start-accepted z = let e = begun z in rw (in-range-start e .1) (words-accepted (fresh p k b) (fresh-sound p k b e))
 
-  pub store-kept : (later : List (List ℕ)) → (number ≡ 0 → ⊥) → w′ ≡ store-left p k b later w
-  unfolding store-left
-  store-kept later h = rw (refused h) (out-of-range-start (refused h) .1)
+  pub store-none : (later : List (List ℕ)) → (number ≡ 0 → ⊥) → w′ ≡ started-left p k b later
+  unfolding started-left store-room
+  store-none later h = rw (refused h) (out-of-range-start (refused h) .1 ∙ length-zero w (long ∙ rw (refused h)))
 
-  pub store-ran : (later : List (List ℕ)) → number ≡ 0 → (v : List ℕ) → v ≡ words (run (store-of w′) (map step-of (steps-in later)) .store) → v ≡ store-left p k b later w
-  unfolding store-left
+  pub store-ran : (later : List (List ℕ)) → number ≡ 0 → (v : List ℕ) → v ≡ words (run (store-of w′) (map step-of (steps-in later)) .store) → v ≡ started-left p k b later
+  unfolding started-left
   store-ran later z v q = rw (begun z) (rw (fresh-there z) at q)
+
+-- a store at the front of a lent space
+pub left-in-space : (space : List ℕ) (n : ℕ) → n ≤ 15_824 → 15_824 ≤ length space → (part left : List ℕ) → part ≡ left → length part ≡ length (take (n - 0) (drop 0 space)) → Laid space 0 left (putMid 0 (n - 0) space part) n
+left-in-space space n most room part left e l =
+    let here : n - 0 ≡ n = omega arith in
+    let there : 0 + n ≡ n = omega arith in
+    let m : n ≡ length left = sym (length-take-le n space (omega arith)) ∙ sym (rw here at l) ∙ ap length e in
+    record { room = omega arith; written = rw (e, ← m, here, there); ends = omega arith }

@@ -10,7 +10,8 @@ ghost use Rattle.text.specs.Reading.{lines, steps-in};
 ghost use Rattle.text.specs.Printing.{step-lines};
 ghost use Rattle.text.specs.Laid.{Laid};
 ghost use Rattle.text.specs.Program as spec;
-ghost use Rattle.program.specs.Parts.{Accepted, store-room, store-left, StepsRun};
+ghost use Rattle.program.specs.Parts.{Accepted, store-room, StepsRun};
+ghost use Rattle.program.specs.Left.{started-left, left};
 
 // Space for the largest store, for as many steps as an input may hold, and for their answers. Only the lengths matter.
 fn store_space() -> [u32; 15824]
@@ -120,7 +121,7 @@ fn begin(
 ) -> usize
     requires { ⌜ (length (now input) ≤ 65536) × (length (now store) ≡ store-room p k b) × (209446 ≤ length (now out)) ⌝ }
     ensures { λ r. ⌜ Laid (now (out .entry)) 0 (spec.start-printed p k b (lines (drop from (now (input .entry))))) (now (out .exit)) r ⌝ }
-    ensures { λ _. ⌜ now (store .exit) ≡ store-left p k b (lines (drop from (now (input .entry)))) (now (store .entry)) ⌝ }
+    ensures { λ _. ⌜ now (store .exit) ≡ started-left p k b (lines (drop from (now (input .entry)))) ⌝ }
 {
     let number = index::start(p, k, b, store);
     let to = text::put_start(number, out, 0);
@@ -130,28 +131,56 @@ fn begin(
     run_lines(input, from, store, out, to)
 }
 
-// The same, with a store of its own.
-fn with_store(p: u32, k: u32, b: u32, input: &[u8], from: usize, out: &mut [u8]) -> usize
-    requires { ⌜ (length (now input) ≤ 65536) × (209446 ≤ length (now out)) ⌝ }
-    ensures { λ r. ⌜ Laid (now (out .entry)) 0 (spec.start-printed p k b (lines (drop from (now (input .entry))))) (now (out .exit)) r ⌝ }
-{
-    let mut store = store_space();
-    let n = store_length(p, k, b);
-    begin(p, k, b, input, from, &mut store[0..n], out)
+// What performing an input answers: how many bytes it prints, and how many words of the lent space are its store's; 0 where none was started.
+pub struct Performed {
+    pub bytes: usize,
+    pub words: usize,
 }
 
-// What the program prints for an input, laid out from the slice's start. 209,446 bytes hold the longest: the start, 5,461 steps and 32 boards of 16 rows.
-pub fn perform(input: &[u8], out: &mut [u8]) -> usize
-    requires { ⌜ 209446 ≤ length (now out) ⌝ }
-    ensures { λ r. ⌜ Laid (now (out .entry)) 0 (spec.printed (now (input .entry))) (now (out .exit)) r ⌝ }
+// The same, with the store at the front of a lent space.
+fn in_space(
+    p: u32,
+    k: u32,
+    b: u32,
+    input: &[u8],
+    from: usize,
+    space: &mut [u32],
+    out: &mut [u8],
+) -> Performed
+    requires { ⌜ (length (now input) ≤ 65536) × (15824 ≤ length (now space)) × (209446 ≤ length (now out)) ⌝ }
+    ensures { λ r. ⌜ Laid (now (out .entry)) 0 (spec.start-printed p k b (lines (drop from (now (input .entry))))) (now (out .exit)) (r .bytes) ⌝ }
+    ensures { λ r. ⌜ Laid (now (space .entry)) 0 (started-left p k b (lines (drop from (now (input .entry))))) (now (space .exit)) (r .words) ⌝ }
+{
+    let words = store_length(p, k, b);
+    let bytes = begin(p, k, b, input, from, &mut space[0..words], out);
+    Performed { bytes, words }
+}
+
+// What the program prints for an input, laid out from the slice's start, and the store that the input leaves, at the front of a lent space. 209,446 bytes hold the longest: the start, 5,461 steps and 32 boards of 16 rows.
+pub fn perform_in(input: &[u8], space: &mut [u32], out: &mut [u8]) -> Performed
+    requires { ⌜ (15824 ≤ length (now space)) × (209446 ≤ length (now out)) ⌝ }
+    ensures { λ r. ⌜ Laid (now (out .entry)) 0 (spec.printed (now (input .entry))) (now (out .exit)) (r .bytes) ⌝ }
+    ensures { λ r. ⌜ Laid (now (space .entry)) 0 (left (now (input .entry))) (now (space .exit)) (r .words) ⌝ }
 {
     if 65_536 < input.len() {
-        return text::put_too_long(out, 0);
+        let bytes = text::put_too_long(out, 0);
+        return Performed { bytes, words: 0 };
     }
     let e = text::until(input, 0, 10);
     let mut sizes = [0u32; 3];
     if !text::numbers(&input[0..e], &mut sizes) {
-        return text::put_bad_line(1, out, 0);
+        let bytes = text::put_bad_line(1, out, 0);
+        return Performed { bytes, words: 0 };
     }
-    with_store(sizes[0], sizes[1], sizes[2], input, e + 1, out)
+    in_space(sizes[0], sizes[1], sizes[2], input, e + 1, space, out)
+}
+
+// The same, with a space of its own.
+pub fn perform(input: &[u8], out: &mut [u8]) -> usize
+    requires { ⌜ 209446 ≤ length (now out) ⌝ }
+    ensures { λ r. ⌜ Laid (now (out .entry)) 0 (spec.printed (now (input .entry))) (now (out .exit)) r ⌝ }
+{
+    let mut space = store_space();
+    let done = perform_in(input, &mut space, out);
+    done.bytes
 }

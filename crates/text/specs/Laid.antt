@@ -29,6 +29,10 @@ laid-length {out} {at} {text} l = rw (l .written) (splice-length out at (length 
 pub laid-to : {out : List ℕ} {at : ℕ} {text after : List ℕ} {to : ℕ} → Laid out at text after to → to ≤ length after
 laid-to l = omega (arith, laid-length l, l .room, l .ends)
 
+-- all up to there is a part that can be lent
+pub whole-part : (out : List ℕ) (at : ℕ) (text after : List ℕ) (to : ℕ) → Laid out at text after to → length (take to after) ≡ to
+whole-part out at text after to l = length-take-le to after (laid-to l)
+
 -- ---- one piece behind another
 module _ {out : List ℕ} {at : ℕ} {xs mid : List ℕ} {to : ℕ} (l : Laid out at xs mid to) where
   front : take to mid ≡ take at out ++ xs

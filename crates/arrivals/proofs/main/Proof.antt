@@ -1,6 +1,6 @@
 -- `arrivals::main` meets its contract. Assumes nothing.
 use borrow.Author.Needs.{needs}
-use Rattle.arrivals.proofs.Prefix.{whole-part}
+use Rattle.text.specs.Laid.{whole-part}
 use Rattle.arrivals.proofs.main.Statement.{statement}
 use Rattle.arrivals.proofs.main.Tie as tie
 

@@ -1,6 +1,6 @@
 -- `program::begin` meets its contract. Assumes nothing.
 use borrow.Author.Needs.{needs}
-use Rattle.program.proofs.Starting.{start-refused, start-done, start-accepted, store-kept, store-ran}
+use Rattle.program.proofs.Starting.{start-refused, start-done, start-accepted, store-none, store-ran}
 use Rattle.program.proofs.begin.Statement.{statement}
 use Rattle.program.proofs.begin.Tie as tie
 
@@ -12,7 +12,7 @@ begin-spec =
     (λ c κs. search needs)
     (λ c. search needs)
     (λ c. search needs)
-    (λ c. (search (needs, start-refused), search (needs, store-kept)))
+    (λ c. (search (needs, start-refused), search (needs, store-none)))
     (λ c κs. (search needs, search (needs, start-accepted), search needs, search needs))
     (λ c. search needs)
     (λ c. search needs)
