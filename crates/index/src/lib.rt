@@ -92,17 +92,17 @@ fn run_all(store: &mut [u32], steps: &[u32], answers: &mut [u32])
 {
     let n = steps.len() / 6;
     let mut held = page::held_entries(store, header::pages(store));
-    let mut i = 0;
-    while i < n {
-        let a = 6 * i;
+    let mut ran = 0;
+    while ran < n {
+        let a = 6 * ran;
         let e = a + 6;
         let x = steps::step_of(&steps[a..e]);
         let done = steps::step(store, x, held);
-        let j = 2 * i;
+        let j = 2 * ran;
         answers[j] = done.number;
         answers[j + 1] = done.count;
         held = done.held;
-        i += 1;
+        ran += 1;
     }
 }
 

@@ -23,7 +23,7 @@ use Rattle.rules.specs.Lists.{same-words, some-one}
 use Rattle.rules.specs.Store.{Board, Store, limit, stamp, closed, words, store-of}
 use Rattle.rules.specs.Memo.{look-up, is-absent, noted}
 use Rattle.rules.specs.Live.{rows-in}
-use Rattle.rules.specs.Tree.{tree-of, put-at}
+use Rattle.rules.specs.Tree.{Tree, tree-of, put-at}
 use Rattle.rules.specs.Cleaning.{smallest-mark}
 use Rattle.rules.specs.Boards.{is-open, lists, told, untold, overfull, touched, opened}
 use Rattle.rules.specs.Sound.{sound, sound-words}
@@ -116,6 +116,23 @@ module _ (w : List ℕ) (x : Step) (e : sound-words w ≡ true) (allowed : Accep
   abbrev row : Box → Row
   row c = record { train = its-train x; bounds = c }
 
+  -- the boards find the store in order, whatever was put in
+  module _ (t : Tree) (w₂ : List ℕ) (g : Grown (length (store-of w₁ .pages)) w₁ t w₂) where
+    grown : Became (with-tree (store-of w₁) t) w₂
+    grown = grown-became (became-lent (h .became)) g
+
+    pub put-lent : Lent w₂
+    put-lent = became-lent grown
+
+    pub none-overfull : some-one (overfull (row b)) (store-of w₂ .boards) ≡ false
+    unfolding overfull
+    none-overfull =
+        let q : store-of w₂ .boards ≡ s .boards = ap (λ u. u .boards) (grown .stored) ∙ ap (λ u. u .boards) (h .became .stored) in
+        rw (its, q) (no-one _ (all-map (allowed .rows-room) λ b k. le-ltb _ _ k))
+
+    pub report-fits : (w₃ : List ℕ) (n : ℕ) → ToldAll (told (row b)) (its-train x) (store-of w₂) w₃ n → Number w32 n
+    report-fits w₃ n c = few-boards (its-train x) (told (row b)) (store-of w₂ .boards) (put-lent .order .sizes .boards-most) n (c .counted)
+
   module _ (w₂ : List ℕ) (g : Grown (length (store-of w₁ .pages)) w₁ (put-at 1 (entry b r) (tree-of (store-of w₁))) w₂) where
     abbrev taken : Store
     taken = stamped s (its-train x) (tree-of s) (s .boards)
@@ -125,20 +142,9 @@ module _ (w : List ℕ) (x : Step) (e : sound-words w ≡ true) (allowed : Accep
         subst (λ z. Became (with-tree taken (put-at 1 (entry (reported-box x) z) (tree-of s))) w₂) (h .taken)
         (became-then (λ u. with-tree u (put-at 1 (entry (reported-box x) r) (tree-of u))) (h .became) (grown-became (became-lent (h .became)) (rw its at g)))
 
-    pub put-lent : Lent w₂
-    put-lent = became-lent put-became
-
-    pub none-overfull : some-one (overfull (row b)) (store-of w₂ .boards) ≡ false
-    unfolding overfull
-    none-overfull = rw (its, ap (λ u. u .boards) (put-became .stored)) (no-one _ (all-map (allowed .rows-room) λ b k. le-ltb _ _ k))
-
-    module _ (w₃ : List ℕ) (n : ℕ) (c : ToldAll (told (row b)) (its-train x) (store-of w₂) w₃ n) where
-      pub report-fits : Number w32 n
-      report-fits = few-boards (its-train x) (told (row b)) (store-of w₂ .boards) (put-lent .order .sizes .boards-most) n (c .counted)
-
-      pub report-effect : Effected (report s x) w₃ n
-      unfolding report
-      report-effect = told-then (told (reported-row x)) (its-train x) put-became (rw its at c)
+    pub report-effect : (w₃ : List ℕ) (n : ℕ) → ToldAll (told (row b)) (its-train x) (store-of w₂) w₃ n → Effected (report s x) w₃ n
+    unfolding report
+    report-effect w₃ n c = told-then (told (reported-row x)) (its-train x) put-became (rw its at c)
 
 -- ---- a withdrawal
 module _ (w : List ℕ) (x : Step) (w₁ : List ℕ) (r : Stamp) (h : StampTaken (store-of w) (its-train x) w₁ r)

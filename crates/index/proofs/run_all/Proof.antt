@@ -12,14 +12,14 @@ use Rattle.index.proofs.run_all.Statement.{statement}
 use Rattle.index.proofs.run_all.Tie as tie
 
 abbrev Inv-loop : tie.InvT-loop
-Inv-loop store₀ steps answers₀ n held₀ i₀ store answers held i =
+Inv-loop store₀ steps answers₀ n held₀ ran₀ store answers held ran =
     (n ≡ length steps / 6)
     × (length store ≡ length store₀)
     × (length answers ≡ length answers₀)
-    × Running (store-of store₀) steps n i store held answers
+    × Running (store-of store₀) steps n ran store held answers
 
 abbrev μ-loop : tie.MeasureT-loop
-μ-loop store₀ steps answers₀ n held₀ i₀ store answers held i = n - i
+μ-loop store₀ steps answers₀ n held₀ ran₀ store answers held ran = n - ran
 
 loop-holds : tie.Need-loop-holds Inv-loop μ-loop
 loop-holds c = (search needs, search needs, search needs, search (needs, running-first, first-given))
