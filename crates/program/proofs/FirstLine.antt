@@ -23,7 +23,7 @@ unfolding lines-printed by-first
 by-first-printed [] = refl
 by-first-printed (l ∷ later) = refl
 
-pub by-length-printed : (input : List ℕ) → printed input ≡ by-length too-long (bad-line 1) start-printed input
+by-length-printed : (input : List ℕ) → printed input ≡ by-length too-long (bad-line 1) start-printed input
 unfolding printed by-length
 by-length-printed input = rw (by-first-printed (lines input))
 
