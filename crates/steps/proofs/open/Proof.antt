@@ -31,8 +31,7 @@ open-board-requires c κs =
     let given = start .pre in
     let sound = given-sound (given .0) in
     let many = rows-many _ x _ (asked .window-of .ensures) _ _ _ _ _ (found .find .ensures) in
-    let inside = open-inside _ _ _ (given .0) (given .1 .0) (given .1 .1) _ (tried .before .open-number .ensures) (tried .if1 .left) _ many (room .if2 .left) in
-    (
+    let inside = open-inside _ _ _ (given .0) (given .1 .0) (given .1 .1) _ (tried .before .open-number .ensures) (tried .if1 .left) _ many (room .if2 .left) in (
       (sound-lent _ sound, sound-searchable _ sound, inside),
       (search needs, room .if2 .left, found-ascend (found .find .ensures)),
     )
