@@ -1,22 +1,19 @@
 -- What each way out of a run says of the whole call, and what its first step finds. Assumes nothing.
 use Prim.Native.Nat.{ℕ, zero, suc, _*_, _/_, _%_}
 use native.Mathlib.Omega.{arith}
-use mathlib.Core.Path.{_≡_, refl, sym, _∙_, ap}
+use mathlib.Core.Path.{_≡_, refl, sym, _∙_}
 use mathlib.Core.Bool.{true}
 use mathlib.Core.List.{List}
 use lib.ListN.{length, getD, drop}
 use borrow.Author.Tests.{eq-eqb, ne-eqb}
-use Rattle.rules.specs.Lists.{same-words}
-use Rattle.rules.specs.Store.{pages-of, words, store-of}
-use Rattle.rules.specs.Live.{held, held-count}
-use Rattle.rules.specs.Sound.{sound, sound-words}
+use Rattle.rules.specs.Store.{pages-of, store-of}
+use Rattle.rules.specs.Live.{held-count}
+use Rattle.rules.specs.Sound.{sound-words}
 use Rattle.rules.specs.Numbers.{first-met}
 use Rattle.rules.specs.Calls.{store-tests, run-number, ran-by, run-call}
-use Rattle.rules.specs.laws.Tests.{and-left, and-right}
-use Rattle.rules.specs.laws.Lists.{same-words-equal}
 use Rattle.theorems.specs.TreeSound.{tree-of-sound}
 use Rattle.theorems.specs.HeldLeaves.{held-counted}
-use Rattle.steps.specs.Stepping.{Given}
+use Rattle.steps.specs.Stepping.{Given, sound-given}
 use Rattle.index.specs.Running.{RanAll}
 use Rattle.index.proofs.Calls.{refused, passed}
 
@@ -27,15 +24,9 @@ module _ (w : List ℕ) (e : sound-words w ≡ true) (p h : ℕ) (pages : p ≡ 
   counted = rw pages at leaves
 
   pub first-given : Given w h
-  unfolding sound-words
   first-given =
-      let same = same-words (words (store-of w)) w in
-      let s : sound (store-of w) ≡ true = and-right same _ e in
-      record {
-        written = same-words-equal _ w (and-left same _ e);
-        sound = s;
-        counted = counted ∙ sym (held-counted (store-of w) (tree-of-sound (store-of w) s));
-      }
+      let s = sound-given w e _ refl .sound in
+      sound-given w e h (counted ∙ sym (held-counted (store-of w) (tree-of-sound (store-of w) s)))
 
 -- ---- each way out
 module _ (w : List ℕ) (number : ℕ) (judged : number ≡ first-met (store-tests w)) (v answers : List ℕ) where

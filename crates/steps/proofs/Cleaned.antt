@@ -1,7 +1,7 @@
 -- What cleaning writes, the tree and then the memo, is its effect. Assumes nothing.
-use Prim.Native.Nat.{ℕ, _+_, _≤_}
+use Prim.Native.Nat.{ℕ, _≤_}
 use native.Mathlib.Omega.{arith}
-use mathlib.Core.Path.{_≡_, refl, sym, _∙_, ap}
+use mathlib.Core.Path.{_≡_, _∙_, ap}
 use mathlib.Core.Bool.{true}
 use mathlib.Core.List.{List}
 use lib.ListN.{length, getD, drop}
@@ -9,9 +9,8 @@ use Rattle.rules.specs.declared.Stamp.{Stamp}
 use Rattle.rules.specs.declared.PageNo.{PageNo}
 use Rattle.rules.specs.declared.Entry.{Entry}
 use Rattle.rules.specs.Lists.{keep}
-use Rattle.rules.specs.Store.{Page as Contents, Store, stamp, free-page, page-at, pages-of, store-of}
+use Rattle.rules.specs.Store.{Store, stamp, free-page, page-at, pages-of, store-of}
 use Rattle.rules.specs.Memo.{is-latest, is-obsolete, lowered-all}
-use Rattle.rules.specs.Live.{held}
 use Rattle.rules.specs.Tree.{tree-of, with-places}
 use Rattle.rules.specs.Cleaning.{leaf-to-clean, cleaned}
 use Rattle.rules.specs.Sound.{sound-words}

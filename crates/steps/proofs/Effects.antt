@@ -19,8 +19,8 @@ use Rattle.rules.specs.declared.Row.{Row}
 use Rattle.rules.specs.declared.Step.{Step}
 use Rattle.rules.specs.declared.LookUp.{LookUp}
 use Rattle.rules.specs.declared.LookUp.the-variants.{Absent, Found as At}
-use Rattle.rules.specs.Lists.{same-words, some-one}
-use Rattle.rules.specs.Store.{Board, Store, limit, stamp, closed, words, store-of}
+use Rattle.rules.specs.Lists.{some-one}
+use Rattle.rules.specs.Store.{Board, Store, limit, stamp, closed, store-of}
 use Rattle.rules.specs.Memo.{look-up, is-absent, noted}
 use Rattle.rules.specs.Live.{rows-in}
 use Rattle.rules.specs.Tree.{Tree, tree-of, put-at}
@@ -29,7 +29,6 @@ use Rattle.rules.specs.Boards.{is-open, lists, told, untold, overfull, touched,
 use Rattle.rules.specs.Sound.{sound, sound-words}
 use Rattle.rules.specs.Steps.{its-train, reported-box, reported-row, its-window, report, withdraw, inspect, open-board, close-board}
 use Rattle.rules.specs.Views.{ProperBox, sound-holds}
-use Rattle.rules.specs.laws.Tests.{and-right}
 use Rattle.rules.specs.laws.All.{All, all-map}
 use Rattle.rules.specs.laws.Counts.{count-left}
 use Rattle.rules.specs.laws.Boards.{touched-told}
@@ -42,12 +41,11 @@ use Rattle.query.specs.Keys.{row-of-key, Found}
 use Rattle.parts.specs.InOrder.{Lent, Became}
 use Rattle.parts.specs.Promises.{no-slot-left, Freed, ToldAll}
 use Rattle.parts.specs.Laws.{became-lent, became-then, next-became, grown-became}
-use Rattle.steps.specs.Stepping.{Effected, StampTaken}
+use Rattle.steps.specs.Stepping.{sound-given, Effected, StampTaken}
 
 -- what is lent is sound
 pub sound-lent-store : (w : List ℕ) → sound-words w ≡ true → sound (store-of w) ≡ true
-unfolding sound-words
-sound-lent-store w e = and-right (same-words (words (store-of w)) w) _ e
+sound-lent-store w e = sound-given w e _ refl .sound
 
 -- ---- the next stamp is taken and noted
 module _ (w : List ℕ) (e : sound-words w ≡ true) where

@@ -1,7 +1,7 @@
 -- How many entries are held after an accepted step of each kind: one more after a report, fewer by its count after a clean. Assumes nothing.
 use Prim.Native.Nat.{ℕ, _+_, _-_}
 use native.Mathlib.Omega.{arith}
-use mathlib.Core.Path.{_≡_, refl, sym, _∙_, ap}
+use mathlib.Core.Path.{_≡_, sym, _∙_, ap}
 use mathlib.Core.Bool.{true}
 use lib.ListN.{length}
 use Rattle.rules.specs.declared.Step.{Step}
@@ -13,7 +13,6 @@ use Rattle.rules.specs.laws.Order.{length-reordered}
 use Rattle.theorems.specs.Report.{report-held}
 use Rattle.theorems.specs.Withdraw.{withdraw-held}
 use Rattle.theorems.specs.OpenClose.{open-only, close-only}
-use Rattle.theorems.specs.Inspect.{inspect-tree}
 use Rattle.theorems.specs.Clean.{clean-count}
 
 module _ (s : Store) (x : Step) (n : ℕ) (sound : sound s ≡ true) (counted : n ≡ length (held s)) where

@@ -13,8 +13,8 @@ use Rattle.rules.specs.Live.{held}
 use Rattle.rules.specs.Tree.{tree-of}
 use Rattle.rules.specs.Sound.{sound, sound-words}
 use Rattle.rules.specs.Steps.{Effect, Done, refusal, effect, step}
-use Rattle.rules.specs.laws.Tests.{and-both}
-use Rattle.rules.specs.laws.Lists.{same-words-self}
+use Rattle.rules.specs.laws.Tests.{and-left, and-right, and-both}
+use Rattle.rules.specs.laws.Lists.{same-words-equal, same-words-self}
 use Rattle.theorems.specs.Stamped.{stamped}
 use Rattle.theorems.specs.StepKept.{step-accepted, step-refused}
 use Rattle.theorems.specs.EveryStep.{step-sound}
@@ -26,6 +26,12 @@ pub record Given (w : List ℕ) (n : ℕ) : Type 0 where
   pub written : words (store-of w) ≡ w
   pub sound : sound (store-of w) ≡ true
   pub counted : n ≡ length (held (store-of w))
+
+pub sound-given : (w : List ℕ) → sound-words w ≡ true → (n : ℕ) → n ≡ length (held (store-of w)) → Given w n
+unfolding sound-words
+sound-given w e n counted =
+    let same = same-words (words (store-of w)) w in
+    record { written = same-words-equal _ w (and-left same _ e); sound = and-right same _ e; counted = counted }
 
 pub given-sound : {w : List ℕ} {n : ℕ} → Given w n → sound-words w ≡ true
 unfolding sound-words

@@ -1,6 +1,6 @@
 -- `steps::withdraw` meets its contract. Assumes nothing.
 use borrow.Author.Needs.{needs}
-use Rattle.parts.specs.Laws.{sound-lent, became-lent}
+use Rattle.parts.specs.Laws.{became-lent}
 use Rattle.steps.specs.Stepping.{given-sound}
 use Rattle.steps.proofs.Effects.{withdraw-fits, withdraw-effect}
 use Rattle.steps.proofs.Ways.{withdraw-refused, withdraw-stamped, withdraw-done}
