@@ -1,4 +1,6 @@
 // Reads an input from standard input and prints what it comes to.
+#![tactic(auto)]
+
 ghost use Rattle.std.specs.Prelude.{◌≡◌, length};
 
 use libc::{STDIN_FILENO, STDOUT_FILENO};

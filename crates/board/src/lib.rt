@@ -1,4 +1,6 @@
 // Boards: one board's own part of the store, 86 words: its window, whether it is open, how many rows it has, and sixteen rows.
+#![tactic(auto)]
+
 ghost use Rattle.std.specs.Prelude.{◌≡◌, ◌≤◌, ◌<◌, [], length, get_or, set};
 ghost use Rattle.rules.specs.Lists.{without};
 ghost use Rattle.rules.specs.Store.{closed, row_limit, row_words, board_words, board_of};

@@ -1,4 +1,6 @@
 // Boxes and windows: the tests and measures of rules/specs/Boxes.antt, for any numbers.
+#![tactic(auto)]
+
 ghost use Rattle.std.specs.Prelude.{◌≡◌, ◌-◌, min, max, [], ◌∷◌, leb};
 ghost use Rattle.rules.specs.Lists.{all_of};
 ghost use Rattle.rules.specs.Boxes as spec;

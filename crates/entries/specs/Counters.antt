@@ -16,13 +16,14 @@ use Rattle.rules.specs.Memo.{one_further, look_up, latest_by, is_latest, is_obso
 use Rattle.rules.specs.laws.All.{always, all_at}
 use Rattle.rules.specs.laws.Counts.{count_same}
 use Rattle.rules.specs.laws.Words.{no_slot}
-use Rattle.rules.specs.laws.Memo.{InOrder, o_more, Says, look_up-says}
+use Rattle.rules.specs.laws.Memo.{InOrder, o_more, o_none, Says, look_up-says}
 use Rattle.theorems.specs.Leaves.{MarkedEntry}
 use Rattle.entries.specs.Passes.{counters, old_place, counter_of, counted, obsolete_in, slot_fine, slots_fine}
 
 -- a slot's train is found at the slot's place
 found_at : {ms : List Slot} → InOrder ms → (i : ℕ) → i < length ms → look_up (get_or ms i no_slot).train ms ≡ Found i (get_or ms i no_slot).latest (get_or ms i no_slot).old
 unfolding look_up one_further
+found_at o_none i h = elim h [ ]
 found_at (o_more {m = m} a o) zero h = rw (eq-eqb m.train.0 m.train.0 refl)
 found_at (o_more {m = m} {ms = ms} a o) (suc i) h =
     rw (ne_eqb m.train.0 (get_or ms i no_slot).train.0 (omega (arith, all_at a i no_slot (le_of_suc-le-suc h))), found_at o i (le_of_suc-le-suc h))

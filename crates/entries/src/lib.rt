@@ -1,4 +1,6 @@
 // The judge's look at held entries, memo and marks: rules 4 to 7 of a store whose tree is sound.
+#![tactic(auto)]
+
 ghost use Rattle.std.specs.Prelude.{◌≡◌, ◌&&◌, ◌+◌, ◌≤◌, ◌<◌, length, get_or, set, take, drop};
 ghost use Rattle.rules.specs.Lists.{every, distinct};
 ghost use Rattle.rules.specs.Store.{store_of};
@@ -22,7 +24,7 @@ const MOST: usize = 576;
 const COUNTERS: usize = 1024;
 
 // What the entries passed so far come to: whether each is sound, and how many they are.
-#[derive(Drop)]
+#[derive(Clone, Copy)]
 struct Tally {
     sound: bool,
     count: usize,
@@ -282,7 +284,7 @@ fn is_new(flags: &[bool], keys: &[u64], from: usize, key: u64) -> bool
 }
 
 // What flags tell of keys: that all differ, that two are equal, or nothing, where too many share a flag for the rest to pay.
-#[derive(Drop)]
+#[derive(Clone, Copy)]
 enum Told {
     Apart,
     Equal,

@@ -1,4 +1,6 @@
 // Words 0 to 15 of a store: its counts, the words that steps change, and where its parts start.
+#![tactic(auto)]
+
 ghost use Rattle.std.specs.Prelude.{◌≡◌, ◌≤◌, length, get_or, set};
 ghost use Rattle.rules.specs.Store as spec;
 

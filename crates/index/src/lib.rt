@@ -1,4 +1,6 @@
 // The public calls. Each tests its own input, answers by the table of numbers and asks nothing of its caller.
+#![tactic(auto)]
+
 ghost use Rattle.std.specs.Prelude.{◌≡◌, true, ◌*◌, ◌/◌, ◌≤◌, length, get_or};
 ghost use Rattle.rules.specs.Lists.{padded};
 ghost use Rattle.rules.specs.Sound.{sound_words};
@@ -107,7 +109,7 @@ pub fn run(store: &mut [u32], steps: &[u32], answers: &mut [u32]) -> u32
 // ---- query
 
 // What a query answers: how many rows it listed, or the number that it is refused with.
-#[derive(Drop)]
+#[derive(Clone, Copy)]
 pub enum Answer {
     Listed(usize),
     Refused(u32),
@@ -155,7 +157,7 @@ pub fn board_test(store: &[u32], i: u32) -> u32
 }
 
 // Where board i's rows stand in the store: from the first word of the first row to behind the last one's; number is the test's.
-#[derive(Drop)]
+#[derive(Clone, Copy)]
 pub struct Part {
     pub number: u32,
     pub from: usize,

@@ -1,4 +1,6 @@
 // The judge of a lent store: its sizes, how it is laid out, and whether it is sound. Any words may be lent.
+#![tactic(auto)]
+
 ghost use Rattle.std.specs.Prelude.{◌≡◌, true, [], ◌∷◌, ◌≤◌, eqb, length, take, drop, get_or};
 ghost use Rattle.rules.specs.Lists.{all_of, every};
 ghost use Rattle.rules.specs.Store.{memo_start, boards_start};

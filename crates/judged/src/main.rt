@@ -1,4 +1,6 @@
 // Judges the stores that standard input lists, the words of one in a line, and writes the number of each in a line.
+#![tactic(auto)]
+
 ghost use Rattle.std.specs.Prelude.{◌≡◌, ◌+◌, ◌*◌, ◌≤◌, length};
 ghost use Rattle.io.specs.Counts.{IsPrefixLen};
 ghost use Rattle.judged.specs.Text.{word_of, words_of, number_of, answers, Put};

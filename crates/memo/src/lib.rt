@@ -1,5 +1,7 @@
 // The memo's part of the store, a slice of three words for each slot: which stamp of a train is the latest, and how many old
 // entries of it may be held.
+#![tactic(auto)]
+
 ghost use Rattle.std.specs.Prelude.{◌<◌, ◌≤◌, leb, length, ◌≡◌};
 ghost use Rattle.rules.specs.declared.LookUp.TheVariants.{Absent};
 ghost use Rattle.rules.specs.laws.All.{All};

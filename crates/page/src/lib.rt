@@ -1,4 +1,6 @@
 // Pages: a page of the store as a struct, its places, and searches over all pages.
+#![tactic(auto)]
+
 ghost use Rattle.std.specs.Prelude.{◌≡◌, ◌+◌, ◌*◌, ◌≤◌, ◌<◌, min, length, drop, get_or};
 ghost use Rattle.rules.specs.Boxes.{cover_of};
 ghost use Rattle.rules.specs.Tree.{its_box};
@@ -11,7 +13,7 @@ ghost use Rattle.rules.specs.Tree as tree;
 use rules::{Box, Entry, PageNo, Stamp};
 
 // A page: one header with its eight places, of which the first `count` are used.
-#[derive(Drop)]
+#[derive(Clone, Copy)]
 pub struct Page {
     pub kind: u32,
     pub count: u32,

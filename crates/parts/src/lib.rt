@@ -1,4 +1,6 @@
 // The store's memo and boards, written part by part: each part's words, in the store's middle, are lent on to be read or written.
+#![tactic(auto)]
+
 ghost use Rattle.std.specs.Prelude.{◌≡◌, false, ◌∷◌, ◌++◌, map, ◌≤◌, ◌<◌, length, set, take};
 ghost use Rattle.rules.specs.Lists.{some_one};
 ghost use Rattle.rules.specs.Store.{limit, row_limit, closed, window_words, board_of, board_at, store_of};

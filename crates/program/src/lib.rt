@@ -1,4 +1,6 @@
 // The program on lent bytes: an input performed, and what it prints laid out.
+#![tactic(auto)]
+
 ghost use Rattle.std.specs.Prelude.{◌≡◌, map, ◌+◌, ◌*◌, ◌≤◌, ◌<◌, length, drop};
 ghost use Rattle.rules.specs.Lists.{cut};
 ghost use Rattle.rules.specs.Store.{store_of, words, board_at};

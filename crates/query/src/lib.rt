@@ -1,4 +1,6 @@
 // The rows of a window: a descent from the root writes a key for each, and the keys, sorted, give the rows by ascending train.
+#![tactic(auto)]
+
 ghost use Rattle.std.specs.Prelude.{◌≡◌, ◌+◌, ◌*◌, ◌<◌, ◌≤◌, length, set, take, drop};
 ghost use mathlib.Core.List.{[], ◌++◌, map, flat_map};
 ghost use Rattle.rules.specs.Lists.{put_if};

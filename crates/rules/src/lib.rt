@@ -1,19 +1,20 @@
 // The types that all crates share. What they mean is defined in specs/.
+#![tactic(auto)]
 
 // A train's number; 0 means no train.
-#[derive(Drop)]
+#[derive(Clone, Copy)]
 pub struct Train(pub u32);
 
 // What each report and each withdrawal takes one of, in turn.
-#[derive(Drop)]
+#[derive(Clone, Copy)]
 pub struct Stamp(pub u32);
 
 // A page's number among the store's pages.
-#[derive(Drop)]
+#[derive(Clone, Copy)]
 pub struct PageNo(pub u32);
 
 // Where a train is, in whole metres of the map grid.
-#[derive(Drop)]
+#[derive(Clone, Copy)]
 pub struct Box {
     pub x0: u32,
     pub y0: u32,
@@ -22,7 +23,7 @@ pub struct Box {
 }
 
 // What a query asks about and a board watches.
-#[derive(Drop)]
+#[derive(Clone, Copy)]
 pub struct Window {
     pub x0: u32,
     pub y0: u32,
@@ -31,7 +32,7 @@ pub struct Window {
 }
 
 // A place of a page: in a leaf a box with its train and stamp, in an inner page a box with its child page and zero.
-#[derive(Drop)]
+#[derive(Clone, Copy)]
 pub struct Entry {
     pub bounds: Box,
     pub key: u32,
@@ -39,7 +40,7 @@ pub struct Entry {
 }
 
 // What the memo notes of a train: its latest stamp, and how many old entries of it may be held.
-#[derive(Drop)]
+#[derive(Clone, Copy)]
 pub struct Slot {
     pub train: Train,
     pub latest: Stamp,
@@ -47,14 +48,14 @@ pub struct Slot {
 }
 
 // A line of a query's answer or of a board.
-#[derive(Drop)]
+#[derive(Clone, Copy)]
 pub struct Row {
     pub train: Train,
     pub bounds: Box,
 }
 
 // What a memo look-up answers.
-#[derive(Drop)]
+#[derive(Clone, Copy)]
 pub enum LookUp {
     Absent,
     Found {
@@ -65,7 +66,7 @@ pub enum LookUp {
 }
 
 // A step: its kind, a train or a board, and a box or a window; words that its kind does not name are 0.
-#[derive(Drop)]
+#[derive(Clone, Copy)]
 pub struct Step {
     pub kind: u32,
     pub a: u32,

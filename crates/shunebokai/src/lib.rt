@@ -1,4 +1,6 @@
 // The calls for programs in C and Rust. A slice is passed as its first word's address and its number of words.
+#![tactic(auto)]
+
 ghost use Rattle.std.specs.Prelude.{◌≡◌};
 ghost use Rattle.rules.specs.Calls as calls;
 ghost use Rattle.index.specs.Rows.{board_part};

@@ -1,4 +1,6 @@
 // The steps: what each is refused with, what it does to the store, and the number and count that it writes.
+#![tactic(auto)]
+
 ghost use Rattle.std.specs.Prelude.{◌≡◌, true, length};
 ghost use Rattle.rules.specs.Store.{store_of};
 ghost use Rattle.rules.specs.Sound.{sound_words};
@@ -11,7 +13,7 @@ ghost use Rattle.steps.specs.Stepping.{Given, Effected, Stepped, StampTaken};
 use rules::{Box, Entry, Row, Stamp, Step, Train, Window};
 
 // What a step answers, its number and its count; and how many entries the tree holds after it.
-#[derive(Drop)]
+#[derive(Clone, Copy)]
 pub struct Outcome {
     pub number: u32,
     pub count: u32,

@@ -1,4 +1,6 @@
 // Performs stored inputs, the files 00, 01 and on: of each it writes its name, what it prints and the words of the store that it leaves.
+#![tactic(auto)]
+
 ghost use Rattle.std.specs.Prelude.{◌≡◌, ◌≤◌, length};
 
 use libc::STDOUT_FILENO;

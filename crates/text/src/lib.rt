@@ -1,4 +1,6 @@
 // The program's text: reading lines of decimals, and laying out what is printed.
+#![tactic(auto)]
+
 ghost use Rattle.std.specs.Prelude.{◌≡◌, ◌+◌, ◌*◌, ◌≤◌, length, drop};
 ghost use mathlib.Core.List.{flat_map};
 ghost use Rattle.rules.specs.Lists.{cut};

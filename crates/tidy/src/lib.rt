@@ -1,4 +1,6 @@
 // Whether a store's words are tidy: what is unused is zero throughout, and every field is in range but those of held entries.
+#![tactic(auto)]
+
 ghost use Rattle.std.specs.Prelude.{◌≡◌, ◌*◌, ◌<◌, ◌≤◌, length, get_or};
 ghost use Rattle.rules.specs.Lists.{cut, every, same_words};
 ghost use Rattle.rules.specs.Store.{no_place, page_words, page_of, board_words, board_of, store_of};

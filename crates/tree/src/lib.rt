@@ -1,4 +1,6 @@
 // Putting an entry or a child page into the tree at its level, and splitting the pages that overflow on the way.
+#![tactic(auto)]
+
 ghost use Rattle.std.specs.Prelude.{◌≡◌, [], ◌∷◌, ◌++◌, map, ◌+◌, ◌≤◌, ◌<◌, length};
 ghost use Rattle.std.proofs.Math.Seq.{slice};
 ghost use Rattle.rules.specs.Store as rules;
@@ -12,7 +14,7 @@ use page::Page;
 use rules::{Box, Entry, PageNo, Stamp};
 
 // What became of a page: it holds all that it was given, or its second part stands in another page.
-#[derive(Drop)]
+#[derive(Clone, Copy)]
 pub enum Written {
     Whole,
     Parted(PageNo),

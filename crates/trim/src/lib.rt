@@ -1,5 +1,7 @@
 // The tree's part of a clean: a leaf loses its obsolete entries, pages left thin are freed, what they held is put back, and a root
 // with one child gives way to it.
+#![tactic(auto)]
+
 ghost use Rattle.std.specs.Prelude.{◌≡◌, ◌+◌, ◌-◌, ◌≤◌, ◌<◌, length};
 ghost use Rattle.rules.specs.Lists.{keep};
 ghost use Rattle.rules.specs.Memo as rules;
@@ -15,14 +17,14 @@ use page::Page;
 use rules::{Entry, PageNo, Stamp};
 
 // A place that waits to be put back, and the level of the page that it goes into.
-#[derive(Drop)]
+#[derive(Clone, Copy)]
 struct Orphan {
     level: u32,
     place: Entry,
 }
 
 // Those that wait, the first `count` of the list: fewer than four places of one page on each of four levels.
-#[derive(Drop)]
+#[derive(Clone, Copy)]
 struct Orphans {
     count: usize,
     list: [Orphan; 12],

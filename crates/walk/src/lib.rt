@@ -1,4 +1,6 @@
 // Whether the pages are a tree as rules 1 to 3 want it, by a walk from the root with one flag a page.
+#![tactic(auto)]
+
 ghost use Rattle.std.specs.Prelude.{◌≡◌, true, false, not, ◌<◌, ◌≤◌, length, get_or, set};
 ghost use Rattle.rules.specs.Lists.{every};
 ghost use Rattle.rules.specs.Sound.{filled};

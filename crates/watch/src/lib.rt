@@ -1,4 +1,6 @@
 // Rule 8 of a store: each open board has a proper window and exactly the rows that a query of it gives.
+#![tactic(auto)]
+
 ghost use Rattle.std.specs.Prelude.{◌≡◌, map, ◌≤◌, length, take};
 ghost use Rattle.rules.specs.Store.{board_of, row_words, store_of};
 ghost use Rattle.rules.specs.Lists.{same_words};

@@ -7,10 +7,10 @@ use borrow.Author.Rules.{rules}
 use Rattle.board.proofs.clear.Statement.{statement}
 use Rattle.board.proofs.clear.Tie as tie
 
-abbrev invariant-loop : tie.invariant-loop
+abbrev invariant-loop : tie.invariant-loop-i
 invariant-loop b₀ i₀ b i = (i ≤ 86) × (length b ≡ 86) × (take i b ≡ replicate i 0)
 
-abbrev decreases-loop : tie.decreases-loop
+abbrev decreases-loop : tie.decreases-loop-i
 decreases-loop b₀ i₀ b i = 86 - i
 
 pub clear_spec : {M : Type 1} → statement M

@@ -7,25 +7,25 @@ use borrow.Author.Rules.{rules}
 use Rattle.board.proofs.insert_at.Statement.{statement}
 use Rattle.board.proofs.insert_at.Tie as tie
 
-abbrev invariant-loop : tie.invariant-loop
+abbrev invariant-loop : tie.invariant-loop-j
 invariant-loop b₀ i r n j₀ b j = (i ≤ j) × Gap b₀ (without (board_of b₀).rows n) j b
 
-abbrev decreases-loop : tie.decreases-loop
+abbrev decreases-loop : tie.decreases-loop-j
 decreases-loop b₀ i r n j₀ b j = j
 
-loop-again : tie.Need-loop-preserved invariant-loop decreases-loop
+loop-again : tie.Need-loop-j-preserved invariant-loop decreases-loop
 loop-again c =
-    let row = c.before.before.before.before in
-    let at = row.before.before.before in
-    (search rules, gap_up _ _ _ _ at.loop.invariant.1 _ _ c.before.before.put-row.ensures (search rules) row.row_at.ensures)
+    let row = c in
+    let at = row in
+    (search rules, gap_up _ _ _ _ at.loop-j.invariant.1 _ _ c.put_row.ensures (search rules) row.row_at-q.ensures)
 
 returns : tie.Need-returns invariant-loop decreases-loop
 returns c =
-    let put = c.before.before in
-    let at = put.before.before.before in
-    let start = at.before.before.before.before in
-    gap_filled_in _ _ start.requires.0 at.before.row_count.ensures.0 start.requires.2 _ _ _
-    (gap_taken _ _ _ _ at.loop.invariant.1 _ _ _ at.loop.invariant.0 (search rules) put.put-row2.ensures)
+    let put = c in
+    let at = put in
+    let start = at in
+    gap_filled_in _ _ start.requires.0 at.row_count-n.ensures.0 start.requires.2 _ _ _
+    (gap_taken _ _ _ _ at.loop-j.invariant.1 _ _ _ at.loop-j.invariant.0 (search rules) put.put_row-2.ensures)
 
 pub insert_at_spec : {M : Type 1} → statement M
 insert_at_spec =

@@ -10,5 +10,5 @@ row_count_spec =
     tie.close
     (tie.spec
     (λ c. search rules)
-    (λ c. omega (arith, c.shared-slice-known.given 5))
+    (λ c. omega (arith, c.shared_slice_known-1.given 5))
     (λ c. search (rules, count_word, count_few)))

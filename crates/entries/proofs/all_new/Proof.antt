@@ -10,19 +10,19 @@ use Rattle.entries.proofs.Apart.{none_flagged, none_equal, flagged-behind, equal
 use Rattle.entries.proofs.all_new.Statement.{statement}
 use Rattle.entries.proofs.all_new.Tie as tie
 
-abbrev invariant-loop : tie.invariant-loop
+abbrev invariant-loop : tie.invariant-loop-i
 invariant-loop keys flags₀ shared₀ i₀ flags shared i = (i ≤ length keys) × (shared ≤ 64) × (length flags ≡ 16384) × Flagged flags (drop i keys) × (distinct (drop i keys) ≡ true)
 
-abbrev decreases-loop : tie.decreases-loop
+abbrev decreases-loop : tie.decreases-loop-i
 decreases-loop keys flags₀ shared₀ i₀ flags shared i = i
 
-loop-holds : tie.Need-loop-init invariant-loop decreases-loop
+loop-holds : tie.Need-loop-i-init invariant-loop decreases-loop
 loop-holds c = (search rules, search rules, search rules, search (rules, none_flagged), search (rules, none_equal))
 
-is_new_requires : tie.Need-is-new-requires invariant-loop decreases-loop
+is_new_requires : tie.Need-is_new-requires invariant-loop decreases-loop
 is_new_requires c κs = (search rules, search (rules, flagged-behind))
 
-loop-again : tie.Need-loop-preserved invariant-loop decreases-loop
+loop-again : tie.Need-loop-i-preserved invariant-loop decreases-loop
 loop-again c = (search rules, search rules, search rules, search (rules, flagged_more), search (rules, distinct_more))
 
 pub all_new_spec : {M : Type 1} → statement M

@@ -8,10 +8,10 @@ use Rattle.entries.proofs.Keys.{climbs_stop, climbs_on, climbs_all}
 use Rattle.entries.proofs.climbs.Statement.{statement}
 use Rattle.entries.proofs.climbs.Tie as tie
 
-abbrev invariant-loop : tie.invariant-loop
+abbrev invariant-loop : tie.invariant-loop-i
 invariant-loop keys i₀ i = (i ≤ length keys) × (distinct keys ≡ distinct (drop i keys))
 
-abbrev decreases-loop : tie.decreases-loop
+abbrev decreases-loop : tie.decreases-loop-i
 decreases-loop keys i₀ i = length keys - i
 
 pub climbs_spec : {M : Type 1} → statement M

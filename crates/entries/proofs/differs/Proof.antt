@@ -8,10 +8,10 @@ use Rattle.entries.proofs.Apart.{differs_stop, differs_on, differs_all}
 use Rattle.entries.proofs.differs.Statement.{statement}
 use Rattle.entries.proofs.differs.Tie as tie
 
-abbrev invariant-loop : tie.invariant-loop
+abbrev invariant-loop : tie.invariant-loop-i
 invariant-loop keys from key i₀ i = (i ≤ length keys) × (apart key (drop from keys) ≡ apart key (drop i keys))
 
-abbrev decreases-loop : tie.decreases-loop
+abbrev decreases-loop : tie.decreases-loop-i
 decreases-loop keys from key i₀ i = length keys - i
 
 pub differs_spec : {M : Type 1} → statement M

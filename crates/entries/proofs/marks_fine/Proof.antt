@@ -10,10 +10,10 @@ use Rattle.entries.proofs.Marks.{no_marks, mark_turn, marks_done}
 use Rattle.entries.proofs.marks_fine.Statement.{statement}
 use Rattle.entries.proofs.marks_fine.Tie as tie
 
-abbrev invariant-loop : tie.invariant-loop
+abbrev invariant-loop : tie.invariant-loop-i
 invariant-loop store p next fine₀ i₀ fine i = (i ≤ p) × (fine ≡ every (mark_fine next) (drop i (store_of store).pages))
 
-abbrev decreases-loop : tie.decreases-loop
+abbrev decreases-loop : tie.decreases-loop-i
 decreases-loop store p next fine₀ i₀ fine i = i
 
 pub marks_fine_spec : {M : Type 1} → statement M

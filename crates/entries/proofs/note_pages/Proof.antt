@@ -6,10 +6,10 @@ use Rattle.entries.proofs.Pages.{none_gathered, all_gathered}
 use Rattle.entries.proofs.note_pages.Statement.{statement}
 use Rattle.entries.proofs.note_pages.Tie as tie
 
-abbrev invariant-loop : tie.invariant-loop
+abbrev invariant-loop : tie.invariant-loop-i
 invariant-loop store memo p next stamps₀ keys₀ counts₀ t₀ i₀ stamps keys counts t i = Passing store memo p next × (i ≤ p) × Before store i t stamps keys counts
 
-abbrev decreases-loop : tie.decreases-loop
+abbrev decreases-loop : tie.decreases-loop-i
 decreases-loop store memo p next stamps₀ keys₀ counts₀ t₀ i₀ stamps keys counts t i = p - i
 
 pub note_pages_spec : {M : Type 1} → statement M

@@ -9,10 +9,10 @@ use Rattle.entries.proofs.Slots.{slots_past, slots_unused, slots_broken, slots_o
 use Rattle.entries.proofs.slots_fine.Statement.{statement}
 use Rattle.entries.proofs.slots_fine.Tie as tie
 
-abbrev invariant-loop : tie.invariant-loop
+abbrev invariant-loop : tie.invariant-loop-i
 invariant-loop memo counts next i₀ i = (i ≤ length counts) × (slots_fine next counts (slots_in memo) ≡ slots_fine next (drop i counts) (drop i (slots_in memo)))
 
-abbrev decreases-loop : tie.decreases-loop
+abbrev decreases-loop : tie.decreases-loop-i
 decreases-loop memo counts next i₀ i = length counts - i
 
 pub slots_fine_spec : {M : Type 1} → statement M

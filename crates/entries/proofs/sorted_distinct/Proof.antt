@@ -6,13 +6,13 @@ use Rattle.entries.proofs.sorted_distinct.Tie as tie
 
 climbs_requires : tie.Need-climbs-requires
 climbs_requires c κs =
-    let done = c.before.before.before.before.before in
-    part_in_order _ _ _ _ done.before.before.before.before.requires.0 done.sort.ensures.0
+    let done = c in
+    part_in_order _ _ _ _ done.requires.0 done.sort.ensures.0
 
 returns : tie.Need-returns
 returns c =
-    let done = c.before.before.before.before.before.before in
-    sorted_part_distinct _ _ _ _ done.before.before.before.before.requires.0 done.sort.ensures.0 _ c.climbs.ensures
+    let done = c in
+    sorted_part_distinct _ _ _ _ done.requires.0 done.sort.ensures.0 _ c.climbs.ensures
 
 pub sorted_distinct_spec : {M : Type 1} → statement M
 sorted_distinct_spec =

@@ -8,13 +8,13 @@ use Rattle.index.proofs.Laws.{filled_more, filled_all}
 use Rattle.index.proofs.fill.Statement.{statement}
 use Rattle.index.proofs.fill.Tie as tie
 
-abbrev invariant-loop : tie.invariant-loop
+abbrev invariant-loop : tie.invariant-loop-i
 invariant-loop store₀ first n i₀ store i = (i ≤ n) × (length store ≡ n) × (length first ≤ n) × (take i store ≡ take i (padded n first))
 
-abbrev decreases-loop : tie.decreases-loop
+abbrev decreases-loop : tie.decreases-loop-i
 decreases-loop store₀ first n i₀ store i = n - i
 
-loop-again : tie.Need-loop-preserved invariant-loop decreases-loop
+loop-again : tie.Need-loop-i-preserved invariant-loop decreases-loop
 loop-again c = (search rules, search rules, search rules, search (rules, filled_more))
 
 returns : tie.Need-returns invariant-loop decreases-loop

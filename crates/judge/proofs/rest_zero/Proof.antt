@@ -7,10 +7,10 @@ use Rattle.judge.proofs.Laws.{Rest, Zero, rest_off, rest_on, rest_all}
 use Rattle.judge.proofs.rest_zero.Statement.{statement}
 use Rattle.judge.proofs.rest_zero.Tie as tie
 
-abbrev invariant-loop : tie.invariant-loop
+abbrev invariant-loop : tie.invariant-loop-i
 invariant-loop store i₀ i = (i ≤ 6) × (Zero (drop i (Rest store)) ≡ Zero (Rest store))
 
-abbrev decreases-loop : tie.decreases-loop
+abbrev decreases-loop : tie.decreases-loop-i
 decreases-loop store i₀ i = 6 - i
 
 pub rest_zero_spec : {M : Type 1} → statement M

@@ -6,10 +6,10 @@ use Rattle.memo.proofs.Moves.{Onward, pushed, pushed_further, all_pushed}
 use Rattle.memo.proofs.insert.Statement.{statement}
 use Rattle.memo.proofs.insert.Tie as tie
 
-abbrev invariant-loop : tie.invariant-loop
+abbrev invariant-loop : tie.invariant-loop-i
 invariant-loop memo₀ at carried₀ i₀ i-end memo carried i = Onward memo₀ memo (pushed (table memo₀) i₀ carried₀) (pushed (table memo) i carried)
 
-abbrev decreases-loop : tie.decreases-loop
+abbrev decreases-loop : tie.decreases-loop-i
 decreases-loop memo₀ at carried₀ i₀ i-end memo carried i = i-end - i
 
 pub insert_spec : {M : Type 1} → statement M

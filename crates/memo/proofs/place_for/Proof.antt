@@ -5,10 +5,10 @@ use Rattle.memo.proofs.Places.{Between, between_all, before_unused, up_to_mid, a
 use Rattle.memo.proofs.place_for.Statement.{statement}
 use Rattle.memo.proofs.place_for.Tie as tie
 
-abbrev invariant-loop : tie.invariant-loop
+abbrev invariant-loop : tie.invariant-loop-lo
 invariant-loop memo t lo₀ hi₀ lo hi = Between memo t lo hi
 
-abbrev decreases-loop : tie.decreases-loop
+abbrev decreases-loop : tie.decreases-loop-lo
 decreases-loop memo t lo₀ hi₀ lo hi = hi - lo
 
 pub place_for_spec : {M : Type 1} → statement M

@@ -6,10 +6,10 @@ use Rattle.memo.proofs.Moves.{Onward, pulled, pulled_further, all_pulled}
 use Rattle.memo.proofs.remove.Statement.{statement}
 use Rattle.memo.proofs.remove.Tie as tie
 
-abbrev invariant-loop : tie.invariant-loop
+abbrev invariant-loop : tie.invariant-loop-i
 invariant-loop memo₀ at i₀ i-end memo i = Onward memo₀ memo (pulled (table memo₀) i₀) (pulled (table memo) i)
 
-abbrev decreases-loop : tie.decreases-loop
+abbrev decreases-loop : tie.decreases-loop-i
 decreases-loop memo₀ at i₀ i-end memo i = i-end - i
 
 pub remove_spec : {M : Type 1} → statement M

@@ -12,10 +12,10 @@ use Rattle.page.proofs.Places.{none_covered, last_covered, one_more-covered}
 use Rattle.page.proofs.cover_page.Statement.{statement}
 use Rattle.page.proofs.cover_page.Tie as tie
 
-abbrev invariant-loop : tie.invariant-loop
+abbrev invariant-loop : tie.invariant-loop-j
 invariant-loop g n j₀ b₀ j b = (j < n) × (n ≡ min 8 g.count) × (b ≡ cover_of its_box (drop j (contents g).places))
 
-abbrev decreases-loop : tie.decreases-loop
+abbrev decreases-loop : tie.decreases-loop-j
 decreases-loop g n j₀ b₀ j b = j
 
 pub cover_page_spec : {M : Type 1} → statement M

@@ -10,10 +10,10 @@ use Rattle.page.proofs.Scan.{none_held, held_turn}
 use Rattle.page.proofs.held_entries.Statement.{statement}
 use Rattle.page.proofs.held_entries.Tie as tie
 
-abbrev invariant-loop : tie.invariant-loop
+abbrev invariant-loop : tie.invariant-loop-i
 invariant-loop store p n₀ i₀ n i = (i ≤ p) × (n ≤ 8 * (p - i)) × (n ≡ held_count (drop i (pages_of p (drop 16 store))))
 
-abbrev decreases-loop : tie.decreases-loop
+abbrev decreases-loop : tie.decreases-loop-i
 decreases-loop store p n₀ i₀ n i = i
 
 pub held_entries_spec : {M : Type 1} → statement M

@@ -6,10 +6,10 @@ use Rattle.page.proofs.Scan.{Sought, clean_here, clean_later, clean_nowhere}
 use Rattle.page.proofs.leaf_to_clean.Statement.{statement}
 use Rattle.page.proofs.leaf_to_clean.Tie as tie
 
-abbrev invariant-loop : tie.invariant-loop
+abbrev invariant-loop : tie.invariant-loop-i
 invariant-loop store p mark i₀ i = (i ≤ p) × Sought (leaf_marked mark) store p i
 
-abbrev decreases-loop : tie.decreases-loop
+abbrev decreases-loop : tie.decreases-loop-i
 decreases-loop store p mark i₀ i = p - i
 
 pub leaf_to_clean_spec : {M : Type 1} → statement M

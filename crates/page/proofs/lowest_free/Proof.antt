@@ -6,10 +6,10 @@ use Rattle.page.proofs.Scan.{Sought, free_here, free_later, free_nowhere}
 use Rattle.page.proofs.lowest_free.Statement.{statement}
 use Rattle.page.proofs.lowest_free.Tie as tie
 
-abbrev invariant-loop : tie.invariant-loop
+abbrev invariant-loop : tie.invariant-loop-i
 invariant-loop store p i₀ i = (i ≤ p) × Sought (λ g. eqb g.kind 0) store p i
 
-abbrev decreases-loop : tie.decreases-loop
+abbrev decreases-loop : tie.decreases-loop-i
 decreases-loop store p i₀ i = p - i
 
 pub lowest_free_spec : {M : Type 1} → statement M

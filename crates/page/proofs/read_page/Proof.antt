@@ -8,10 +8,10 @@ use Rattle.page.proofs.Words.{read_turn, read_all}
 use Rattle.page.proofs.read_page.Statement.{statement}
 use Rattle.page.proofs.read_page.Tie as tie
 
-abbrev invariant-loop : tie.invariant-loop
+abbrev invariant-loop : tie.invariant-loop-i
 invariant-loop src places₀ i₀ places i = (i ≤ 8) × (length places ≡ 8) × (take i places ≡ take i (struct_of src).places)
 
-abbrev decreases-loop : tie.decreases-loop
+abbrev decreases-loop : tie.decreases-loop-i
 decreases-loop src places₀ i₀ places i = 8 - i
 
 pub read_page_spec : {M : Type 1} → statement M

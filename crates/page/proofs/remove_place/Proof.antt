@@ -9,10 +9,10 @@ use Rattle.page.proofs.Places.{gap_turn, gap_closed}
 use Rattle.page.proofs.remove_place.Statement.{statement}
 use Rattle.page.proofs.remove_place.Tie as tie
 
-abbrev invariant-loop : tie.invariant-loop
+abbrev invariant-loop : tie.invariant-loop-j
 invariant-loop g i places₀ j₀ places j = (j ≤ 7) × (length places ≡ 8) × (without places j ≡ without g.places i)
 
-abbrev decreases-loop : tie.decreases-loop
+abbrev decreases-loop : tie.decreases-loop-j
 decreases-loop g i places₀ j₀ places j = 7 - j
 
 pub remove_place_spec : {M : Type 1} → statement M

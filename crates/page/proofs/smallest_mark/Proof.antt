@@ -10,10 +10,10 @@ use Rattle.page.proofs.Scan.{no_mark, mark_turn}
 use Rattle.page.proofs.smallest_mark.Statement.{statement}
 use Rattle.page.proofs.smallest_mark.Tie as tie
 
-abbrev invariant-loop : tie.invariant-loop
+abbrev invariant-loop : tie.invariant-loop-i
 invariant-loop store p mark₀ i₀ mark i = (i ≤ p) × (mark ≡ smallest_mark (drop i (pages_of p (drop 16 store))))
 
-abbrev decreases-loop : tie.decreases-loop
+abbrev decreases-loop : tie.decreases-loop-i
 decreases-loop store p mark₀ i₀ mark i = i
 
 pub smallest_mark_spec : {M : Type 1} → statement M

@@ -9,17 +9,17 @@ use Rattle.page.proofs.Words.{header_written, write_turn, all_written}
 use Rattle.page.proofs.write_page.Statement.{statement}
 use Rattle.page.proofs.write_page.Tie as tie
 
-abbrev invariant-loop : tie.invariant-loop
+abbrev invariant-loop : tie.invariant-loop-i
 invariant-loop dst₀ g i₀ dst i = (i ≤ 8) × (length dst ≡ 52) × (take (4 + 6 * i) dst ≡ take (4 + 6 * i) (struct_words g))
 
-abbrev decreases-loop : tie.decreases-loop
+abbrev decreases-loop : tie.decreases-loop-i
 decreases-loop dst₀ g i₀ dst i = 8 - i
 
-loop-again : tie.Need-loop-preserved invariant-loop decreases-loop
+loop-again : tie.Need-loop-i-preserved invariant-loop decreases-loop
 loop-again c =
-    let at = c.before.before.before.before.before.before in
-    let g = at.before.before.args.t2 in
-    (search rules, search rules, write_turn g (search (rules, length_mapped)) at.loop.dst at.loop.invariant.1 at.loop.i at.loop.invariant.2 _ _ (search rules) c.before.before.write-place.ensures)
+    let at = c in
+    let g = at.args.g in
+    (search rules, search rules, write_turn g (search (rules, length_mapped)) at.loop-i.dst at.loop-i.invariant.1 at.loop-i.i at.loop-i.invariant.2 _ _ (search rules) c.write_place.ensures)
 
 pub write_page_spec : {M : Type 1} → statement M
 write_page_spec =

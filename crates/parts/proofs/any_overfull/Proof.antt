@@ -9,10 +9,10 @@ use Rattle.parts.proofs.Boards.{Looking, looked_here, looked_on, looked_at_all}
 use Rattle.parts.proofs.any_overfull.Statement.{statement}
 use Rattle.parts.proofs.any_overfull.Tie as tie
 
-abbrev invariant-loop : tie.invariant-loop
+abbrev invariant-loop : tie.invariant-loop-i
 invariant-loop store r n i₀ i = (i ≤ n) × Looking (overfull r) store i
 
-abbrev decreases-loop : tie.decreases-loop
+abbrev decreases-loop : tie.decreases-loop-i
 decreases-loop store r n i₀ i = n - i
 
 pub any_overfull_spec : {M : Type 1} → statement M

@@ -9,10 +9,10 @@ use Rattle.parts.proofs.Memo.{Lowering, lowering_all, lowering_lent, lowering_on
 use Rattle.parts.proofs.lower_all.Statement.{statement}
 use Rattle.parts.proofs.lower_all.Tie as tie
 
-abbrev invariant-loop : tie.invariant-loop
+abbrev invariant-loop : tie.invariant-loop-i
 invariant-loop store₀ gone n i₀ store i = (i ≤ n) × (length store ≡ length store₀) × Lowering store₀ (contents gone).places store i
 
-abbrev decreases-loop : tie.decreases-loop
+abbrev decreases-loop : tie.decreases-loop-i
 decreases-loop store₀ gone n i₀ store i = n - i
 
 pub lower_all_spec : {M : Type 1} → statement M

@@ -10,11 +10,11 @@ use Rattle.parts.proofs.Boards.{Telling, telling_none, telling_lent, telling_ins
 use Rattle.parts.proofs.untell_all.Statement.{statement}
 use Rattle.parts.proofs.untell_all.Tie as tie
 
-abbrev invariant-loop : tie.invariant-loop
+abbrev invariant-loop : tie.invariant-loop-i
 invariant-loop store₀ t n listed₀ i₀ store listed i =
     (i ≤ n) × (length store ≡ length store₀) × Telling (untold t) t store₀ store i listed
 
-abbrev decreases-loop : tie.decreases-loop
+abbrev decreases-loop : tie.decreases-loop-i
 decreases-loop store₀ t n listed₀ i₀ store listed i = n - i
 
 pub untell_all_spec : {M : Type 1} → statement M
@@ -36,9 +36,9 @@ untell_all_spec =
     (λ c. search rules)
     (λ c. search rules)
     (λ c.
-    let at = c.before.before.before.before in
-    let loop = at.before.before.before in
-    let start = loop.before.before.before.before in
-    (search rules, search rules, telling_on _ _ _ _ _ _ loop.loop.invariant.2 (search (rules, board_inside, lent_placed)) _ at.board_start.ensures (untold_keeps _ _ start.requires) _ _ c.before.before.untell-one.ensures))
+    let at = c in
+    let loop = at in
+    let start = loop in
+    (search rules, search rules, telling_on _ _ _ _ _ _ loop.loop-i.invariant.2 (search (rules, board_inside, lent_placed)) _ at.board_start-a.ensures (untold_keeps _ _ start.requires) _ _ c.untell_one-listed.ensures))
     (λ c. search rules)
     (λ c. search (rules, telling_end, boards_few, lent_placed)))

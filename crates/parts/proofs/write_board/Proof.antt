@@ -8,10 +8,10 @@ use Rattle.parts.proofs.Opening.{opened_long, copy_on, copy_end}
 use Rattle.parts.proofs.write_board.Statement.{statement}
 use Rattle.parts.proofs.write_board.Tie as tie
 
-abbrev invariant-loop : tie.invariant-loop
+abbrev invariant-loop : tie.invariant-loop-i
 invariant-loop b₀ n rows i₀ b i = (i ≤ 80) × (length b₀ ≡ 86) × (length b ≡ 86) × (b ≡ paste b₀ 6 rows i)
 
-abbrev decreases-loop : tie.decreases-loop
+abbrev decreases-loop : tie.decreases-loop-i
 decreases-loop b₀ n rows i₀ b i = 80 - i
 
 pub write_board_spec : {M : Type 1} → statement M

@@ -8,11 +8,11 @@ use Rattle.program.proofs.Boards.{boards_left, boards_none, header_long, boards_
 use Rattle.program.proofs.put_boards.Statement.{statement}
 use Rattle.program.proofs.put_boards.Tie as tie
 
-abbrev invariant-loop : tie.invariant-loop
+abbrev invariant-loop : tie.invariant-loop-i
 invariant-loop store out₀ at b to₀ i₀ out to i =
     (b ≡ get_or store 9 0) × (b ≤ 32) × (i ≤ b) × (length out ≡ length out₀) × (to ≤ at + 913 * i) × Partly out₀ at (boards_left store 0) out to (boards_left store i)
 
-abbrev decreases-loop : tie.decreases-loop
+abbrev decreases-loop : tie.decreases-loop-i
 decreases-loop store out₀ at b to₀ i₀ out to i = b - i
 
 pub put_boards_spec : {M : Type 1} → statement M

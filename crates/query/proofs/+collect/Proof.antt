@@ -1,6 +1,6 @@
 -- The proof of the cycle of calls {collect}. The measure is the level; the loop's invariant: the keys under the places from i on are
 -- left. Assumes nothing.
-use mathlib.Core.Logic.{⊎_elim}
+use Rattle.query.proofs.+collect.Lts-collect.{then-meets, else-meets}
 use Prim.Native.Nat.{ℕ, ◌<◌, ◌-◌}
 use borrow.Author.Rules.{rules}
 use borrow.Fn.Kinds.{In}
@@ -25,10 +25,10 @@ collect_at t = and 2 collect-kinds.ps (is 2 collect-kinds.ps μ_collect t) colle
 abbrev collect_below : ℕ → In 2 collect-kinds.ps
 collect_below t = and 2 collect-kinds.ps (falls 2 collect-kinds.ps ◌<◌ μ_collect t) collect.Pre
 
-abbrev collect-Inv-loop : collect-lts.invariant-loop
+abbrev collect-Inv-loop : collect-lts.invariant-loop-i
 collect-Inv-loop store level w keys₀ n g count m₀ i₀ keys m i = LeftInner store level g w keys₀ n keys m i
 
-abbrev collect_μ_loop : collect-lts.decreases-loop
+abbrev collect_μ_loop : collect-lts.decreases-loop-i
 collect_μ_loop store level w keys₀ n g count m₀ i₀ keys m i = count - i
 
 pub +collect_spec : {M : Type 1} → statement M
@@ -60,6 +60,6 @@ pub +collect_spec : {M : Type 1} → statement M
     (λ c κs. (search rules, ((search rules, search rules), search (rules, inner_room))))
     (λ c. search rules)
     (λ c. search rules)
-    (λ c. ⊎_elim (λ w. search (rules, inner_met)) (λ w. search (rules, inner_missed)) c.if2.branch)
+    (λ c. elim c.if-meets.branch [ then-meets w ↦ search (rules, inner_met) | else-meets w ↦ search (rules, inner_missed) ])
     (λ c. search (rules, left-length))
     (λ c. search (rules, inner_end))

@@ -5,10 +5,10 @@ use Rattle.query.proofs.Left.{LeftLeaf, all_left, leaf_turn, leaf_end, leaf_most
 use Rattle.query.proofs.collect_leaf.Statement.{statement}
 use Rattle.query.proofs.collect_leaf.Tie as tie
 
-abbrev invariant-loop : tie.invariant-loop
+abbrev invariant-loop : tie.invariant-loop-i
 invariant-loop store at w keys₀ n g count m₀ i₀ keys m i = LeftLeaf store at g w keys₀ n keys m i
 
-abbrev decreases-loop : tie.decreases-loop
+abbrev decreases-loop : tie.decreases-loop-i
 decreases-loop store at w keys₀ n g count m₀ i₀ keys m i = count - i
 
 pub collect_leaf_spec : {M : Type 1} → statement M

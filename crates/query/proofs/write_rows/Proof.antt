@@ -5,10 +5,10 @@ use Rattle.query.proofs.Writing.{RowsWritten, none_yet, rows_length, rows_room, 
 use Rattle.query.proofs.write_rows.Statement.{statement}
 use Rattle.query.proofs.write_rows.Tie as tie
 
-abbrev invariant-loop : tie.invariant-loop
+abbrev invariant-loop : tie.invariant-loop-i
 invariant-loop store keys n out₀ i₀ out i = (i ≤ n) × RowsWritten store keys i out₀ out
 
-abbrev decreases-loop : tie.decreases-loop
+abbrev decreases-loop : tie.decreases-loop-i
 decreases-loop store keys n out₀ i₀ out i = n - i
 
 pub write_rows_spec : {M : Type 1} → statement M

@@ -172,6 +172,7 @@ not_above-known s = known_same (λ l. not_above l s) λ p q latest old. refl
 
 -- a slot is what is noted of its train
 pub known_member : {m : Slot} {ms : List Slot} → InOrder ms → Mem m ms → known m.train ms ≡ Found 0 m.latest m.old
+known_member {m = m} o_none x3 = elim x3 [ ]
 known_member (o_more {m = n} {ms = ms} a o) (Memᴰ.head e) = rw e (known_here n.train n ms refl)
 known_member {m = m} (o_more {m = n} {ms = ms} a o) (Memᴰ.tail k) =
     known_on m.train n ms (omega (arith, all_member a k)) ∙ known_member o k

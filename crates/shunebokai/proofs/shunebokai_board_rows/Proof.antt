@@ -9,4 +9,4 @@ shunebokai_board_rows_spec =
     tie.close
     (tie.spec
     (λ c κs. search rules)
-    (λ c. sym c.board_part.ensures))
+    (λ c. sym c.board_part-part.ensures))

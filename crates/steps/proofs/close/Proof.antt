@@ -17,8 +17,8 @@ close_spec =
     (λ c. search (rules, close_refused))
     (λ c. search rules)
     (λ c κs.
-    let tried = c.before.before in
-    let given = tried.before.before.before.before.requires in
-    (search (rules, sound_lent, given_sound), close_inside _ _ _ given.0 given.1.0 given.1.1 _ tried.before.close_number.ensures tried.if1.false))
+    let tried = c in
+    let given = tried.requires in
+    (search (rules, sound_lent, given_sound), close_inside _ _ _ given.0 given.1.0 given.1.1 _ tried.close_number-number.ensures tried.if-number-ne0.false))
     (λ c. search rules)
     (λ c. search (rules, close_done, close_effect)))

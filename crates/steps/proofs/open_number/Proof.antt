@@ -17,7 +17,7 @@ open_number_spec =
     (λ c κs. search (rules, header_long, lent_placed, sound_lent))
     (λ c. search (rules, met_here, met_later, window_tried, no_board, lent_placed, sound_lent))
     (λ c κs.
-    let placed = lent_placed _ (sound_lent _ c.before.before.before.before.before.before.before.requires) in
-    (placed, board_inside _ placed _ _ c.before.boards.ensures c.if2.false))
+    let placed = lent_placed _ (sound_lent _ c.requires) in
+    (placed, board_inside _ placed _ _ c.boards.ensures c.if-boards-i.false))
     (λ c. search (rules, met_here, met_later, window_tried, tried, a_board, lent_placed, sound_lent))
     (λ c. search (rules, none_left, met_later, window_tried, tried, a_board, lent_placed, sound_lent)))

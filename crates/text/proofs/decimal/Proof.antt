@@ -5,10 +5,10 @@ use Rattle.text.proofs.Fields.{Counting, empty_bad, counting_none, whole_field, 
 use Rattle.text.proofs.decimal.Statement.{statement}
 use Rattle.text.proofs.decimal.Tie as tie
 
-abbrev invariant-loop : tie.invariant-loop
+abbrev invariant-loop : tie.invariant-loop-i
 invariant-loop field n value₀ i₀ value i = (i ≤ n) × Counting field value i
 
-abbrev decreases-loop : tie.decreases-loop
+abbrev decreases-loop : tie.decreases-loop-i
 decreases-loop field n value₀ i₀ value i = n - i
 
 pub decimal_spec : {M : Type 1} → statement M

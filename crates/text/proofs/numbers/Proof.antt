@@ -7,10 +7,10 @@ use Rattle.text.proofs.Lines.{Scanning, scanning_all, full, stops, ends, goes_on
 use Rattle.text.proofs.numbers.Statement.{statement}
 use Rattle.text.proofs.numbers.Tie as tie
 
-abbrev invariant-loop : tie.invariant-loop
+abbrev invariant-loop : tie.invariant-loop-i
 invariant-loop line out₀ n at₀ i₀ out at i = (at ≤ length line) × (i ≤ n) × (length out ≡ n) × Scanning line out₀ n out at i
 
-abbrev decreases-loop : tie.decreases-loop
+abbrev decreases-loop : tie.decreases-loop-i
 decreases-loop line out₀ n at₀ i₀ out at i = n - i
 
 pub numbers_spec : {M : Type 1} → statement M

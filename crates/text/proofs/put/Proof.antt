@@ -8,10 +8,10 @@ use Rattle.text.proofs.Puts.{bytes_none, byte_more, bytes_all}
 use Rattle.text.proofs.put.Statement.{statement}
 use Rattle.text.proofs.put.Tie as tie
 
-abbrev invariant-loop : tie.invariant-loop
+abbrev invariant-loop : tie.invariant-loop-i
 invariant-loop bytes out₀ at i₀ out i = (i ≤ length bytes) × (length out ≡ length out₀) × Partly out₀ at bytes out (at + i) (drop i bytes)
 
-abbrev decreases-loop : tie.decreases-loop
+abbrev decreases-loop : tie.decreases-loop-i
 decreases-loop bytes out₀ at i₀ out i = length bytes - i
 
 pub put_spec : {M : Type 1} → statement M

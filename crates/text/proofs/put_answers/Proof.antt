@@ -10,11 +10,11 @@ use Rattle.text.proofs.Tables.{answers_left, answers_none, answer_more, answers_
 use Rattle.text.proofs.put_answers.Statement.{statement}
 use Rattle.text.proofs.put_answers.Tie as tie
 
-abbrev invariant-loop : tie.invariant-loop
+abbrev invariant-loop : tie.invariant-loop-i
 invariant-loop steps answers n out₀ at to₀ i₀ out to i =
     (i ≤ n) × (length out ≡ length out₀) × (to ≤ at + 33 * i) × Partly out₀ at (step_lines (cut n 6 steps) answers) out to (answers_left steps answers n i)
 
-abbrev decreases-loop : tie.decreases-loop
+abbrev decreases-loop : tie.decreases-loop-i
 decreases-loop steps answers n out₀ at to₀ i₀ out to i = n - i
 
 pub put_answers_spec : {M : Type 1} → statement M

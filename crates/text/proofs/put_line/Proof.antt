@@ -9,11 +9,11 @@ use Rattle.text.proofs.Puts.{line_none, end_place, end_long, decimal_more, line_
 use Rattle.text.proofs.put_line.Statement.{statement}
 use Rattle.text.proofs.put_line.Tie as tie
 
-abbrev invariant-loop : tie.invariant-loop
+abbrev invariant-loop : tie.invariant-loop-i
 invariant-loop words out₀ at n to₀ i₀ out to i =
     (i ≤ length words) × (length out ≡ length out₀) × (to ≤ at + 11 * i) × Partly out₀ at (line words) out to (line (drop i words))
 
-abbrev decreases-loop : tie.decreases-loop
+abbrev decreases-loop : tie.decreases-loop-i
 decreases-loop words out₀ at n to₀ i₀ out to i = length words - i
 
 pub put_line_spec : {M : Type 1} → statement M

@@ -11,11 +11,11 @@ use Rattle.text.proofs.Tables.{rows_left, rows_none, row_room, row_near, row_mor
 use Rattle.text.proofs.put_rows.Statement.{statement}
 use Rattle.text.proofs.put_rows.Tie as tie
 
-abbrev invariant-loop : tie.invariant-loop
+abbrev invariant-loop : tie.invariant-loop-i
 invariant-loop rows n out₀ at to₀ i₀ out to i =
     (i ≤ n) × (length out ≡ length out₀) × (to ≤ at + 55 * i) × Partly out₀ at (flat_map line (cut n 5 rows)) out to (rows_left rows n i)
 
-abbrev decreases-loop : tie.decreases-loop
+abbrev decreases-loop : tie.decreases-loop-i
 decreases-loop rows n out₀ at to₀ i₀ out to i = n - i
 
 pub put_rows_spec : {M : Type 1} → statement M

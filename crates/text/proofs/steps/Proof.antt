@@ -8,11 +8,11 @@ use Rattle.text.proofs.ManyLines.{Stepping, stepping_all, all_steps, still_long,
 use Rattle.text.proofs.steps.Statement.{statement}
 use Rattle.text.proofs.steps.Tie as tie
 
-abbrev invariant-loop : tie.invariant-loop
+abbrev invariant-loop : tie.invariant-loop-at
 invariant-loop text from out₀ count₀ at₀ out count at =
     (length out ≡ length out₀) × (12 * count ≤ at) × (12 * count ≤ length text + 1) × Stepping (lines (drop from text)) out₀ out count (lines (drop at text))
 
-abbrev decreases-loop : tie.decreases-loop
+abbrev decreases-loop : tie.decreases-loop-at
 decreases-loop text from out₀ count₀ at₀ out count at = length text - at
 
 pub steps_spec : {M : Type 1} → statement M

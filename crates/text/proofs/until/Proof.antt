@@ -7,10 +7,10 @@ use Rattle.text.proofs.Fields.{Looking, found, passed, nowhere}
 use Rattle.text.proofs.until.Statement.{statement}
 use Rattle.text.proofs.until.Tie as tie
 
-abbrev invariant-loop : tie.invariant-loop
+abbrev invariant-loop : tie.invariant-loop-i
 invariant-loop text from b i₀ i = (from ≤ i) × (i ≤ length text) × Looking text from b i
 
-abbrev decreases-loop : tie.decreases-loop
+abbrev decreases-loop : tie.decreases-loop-i
 decreases-loop text from b i₀ i = length text - i
 
 pub until_spec : {M : Type 1} → statement M

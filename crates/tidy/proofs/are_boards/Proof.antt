@@ -7,10 +7,10 @@ use Rattle.tidy.specs.Tidy.{board_tidy}
 use Rattle.tidy.proofs.are_boards.Statement.{statement}
 use Rattle.tidy.proofs.are_boards.Tie as tie
 
-abbrev invariant-loop : tie.invariant-loop
+abbrev invariant-loop : tie.invariant-loop-i
 invariant-loop boards b i₀ i = (i ≤ b) × Passed board_tidy (cut b 86 boards) i
 
-abbrev decreases-loop : tie.decreases-loop
+abbrev decreases-loop : tie.decreases-loop-i
 decreases-loop boards b i₀ i = b - i
 
 pub are_boards_spec : {M : Type 1} → statement M

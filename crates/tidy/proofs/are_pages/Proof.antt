@@ -7,10 +7,10 @@ use Rattle.tidy.specs.Tidy.{page_tidy}
 use Rattle.tidy.proofs.are_pages.Statement.{statement}
 use Rattle.tidy.proofs.are_pages.Tie as tie
 
-abbrev invariant-loop : tie.invariant-loop
+abbrev invariant-loop : tie.invariant-loop-i
 invariant-loop pages p i₀ i = (i ≤ p) × Passed (page_tidy p) (cut p 52 pages) i
 
-abbrev decreases-loop : tie.decreases-loop
+abbrev decreases-loop : tie.decreases-loop-i
 decreases-loop pages p i₀ i = p - i
 
 pub are_pages_spec : {M : Type 1} → statement M

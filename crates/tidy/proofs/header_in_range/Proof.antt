@@ -17,4 +17,4 @@ header_in_range_spec =
     (λ c. search rules)
     (λ c. search (rules, no_levels))
     (λ c. search rules)
-    (λ c. (few_levels _ (search rules) (omega (arith, c.shared-slice-known5.given 1)) (search rules) (search rules))))
+    (λ c. (few_levels _ (search rules) (omega (arith, c.shared_slice_known-5-1.given 1)) (search rules) (search rules))))

@@ -8,10 +8,10 @@ use Rattle.rules.specs.Store.{page_of}
 use Rattle.tidy.proofs.inner_places.Statement.{statement}
 use Rattle.tidy.proofs.inner_places.Tie as tie
 
-abbrev invariant-loop : tie.invariant-loop
+abbrev invariant-loop : tie.invariant-loop-i
 invariant-loop page p count i₀ i = (i ≤ count) × Passed (inner_place p) (page_of page).places i
 
-abbrev decreases-loop : tie.decreases-loop
+abbrev decreases-loop : tie.decreases-loop-i
 decreases-loop page p count i₀ i = count - i
 
 pub inner_places_spec : {M : Type 1} → statement M

@@ -5,10 +5,10 @@ use Prim.Native.Nat.{◌≤◌, ◌-◌}
 use Rattle.tidy.proofs.is_memo.Statement.{statement}
 use Rattle.tidy.proofs.is_memo.Tie as tie
 
-abbrev invariant-loop : tie.invariant-loop
+abbrev invariant-loop : tie.invariant-loop-i
 invariant-loop memo k last₀ i₀ last i = (i ≤ k) × Ascended k memo last i
 
-abbrev decreases-loop : tie.decreases-loop
+abbrev decreases-loop : tie.decreases-loop-i
 decreases-loop memo k last₀ i₀ last i = k - i
 
 pub is_memo_spec : {M : Type 1} → statement M

@@ -8,10 +8,10 @@ use Rattle.tidy.proofs.Parts.{zero_here, other_here, zero_throughout}
 use Rattle.tidy.proofs.is_zero.Statement.{statement}
 use Rattle.tidy.proofs.is_zero.Tie as tie
 
-abbrev invariant-loop : tie.invariant-loop
+abbrev invariant-loop : tie.invariant-loop-i
 invariant-loop words i₀ i = (i ≤ length words) × Passed is_zero words i
 
-abbrev decreases-loop : tie.decreases-loop
+abbrev decreases-loop : tie.decreases-loop-i
 decreases-loop words i₀ i = length words - i
 
 pub is_zero_spec : {M : Type 1} → statement M

@@ -10,11 +10,11 @@ use Rattle.tree.proofs.Rows.{nine_turn, nine_all}
 use Rattle.tree.proofs.nine.Statement.{statement}
 use Rattle.tree.proofs.nine.Tie as tie
 
-abbrev invariant-loop : tie.invariant-loop
+abbrev invariant-loop : tie.invariant-loop-i
 invariant-loop g rows₀ i₀ rows i =
     (i ≤ 8) × (length rows₀ ≡ 9) × (length rows ≡ 9) × (rows ≡ map place_words (take i g.places) ++ drop i rows₀)
 
-abbrev decreases-loop : tie.decreases-loop
+abbrev decreases-loop : tie.decreases-loop-i
 decreases-loop g rows₀ i₀ rows i = 8 - i
 
 pub nine_spec : {M : Type 1} → statement M

@@ -10,11 +10,11 @@ use Rattle.tree.proofs.Rows.{part_start, part_turn, part_all}
 use Rattle.tree.proofs.part.Statement.{statement}
 use Rattle.tree.proofs.part.Tie as tie
 
-abbrev invariant-loop : tie.invariant-loop
+abbrev invariant-loop : tie.invariant-loop-i
 invariant-loop from to kind rows g₀ i₀ g i =
     (from ≤ i) × (i ≤ to) × (length rows ≡ 9) × (g ≡ laid_page (page_with kind g₀.mark (slice from i rows)))
 
-abbrev decreases-loop : tie.decreases-loop
+abbrev decreases-loop : tie.decreases-loop-i
 decreases-loop from to kind rows g₀ i₀ g i = to - i
 
 pub part_spec : {M : Type 1} → statement M

@@ -14,9 +14,9 @@ raise_spec =
     (λ c κs. search (rules, raise_room))
     (λ c. search (rules, levels_fit))
     (λ c κs.
-    let r = c.before.before.before in
-    let n = r.before.before.before.before in
-    let s = n.before.before.before.before.before in
-    raise_room_2 s.args.p s.args.store.now s.requires.0 _ _ _ n.new_root.ensures _ r.set-root.ensures)
+    let r = c in
+    let n = r in
+    let s = n in
+    raise_room_2 s.args.p s.args.store.now s.requires.0 _ _ _ n.new_root-r.ensures _ r.set_root.ensures)
     (λ c. search rules)
     (λ c. search (rules, raise_made)))

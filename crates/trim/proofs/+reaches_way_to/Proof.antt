@@ -35,10 +35,10 @@ way_to_at t = and 1 way-to-kinds.ps (is 1 way-to-kinds.ps μ_way_to t) way-to.Pr
 abbrev way_to_below : ℕ → In 1 way-to-kinds.ps
 way_to_below t = and 1 way-to-kinds.ps (falls 1 way-to-kinds.ps ◌<◌ μ_way_to t) way-to.Pre
 
-abbrev way-to-Inv-loop : way-to-lts.invariant-loop
+abbrev way-to-Inv-loop : way-to-lts.invariant-loop-i
 way-to-Inv-loop store p level g q n i₀ i = Further store level q g i
 
-abbrev way_to_μ_loop : way-to-lts.decreases-loop
+abbrev way_to_μ_loop : way-to-lts.decreases-loop-i
 way_to_μ_loop store p level g q n i₀ i = n - i
 
 pub +reaches_way_to_spec : {M : Type 1} → statement M

@@ -55,24 +55,9 @@ pub +trim_below_spec : {M : Type 1} → statement M
     (λ c κs. search rules)
     (λ c. search rules)
     (λ c κs.
-    let way = c.before.before in
-    let read = way.before.before in
-    let deep = read.before.before in
-    let start = deep.before.before in
-    (search rules, (search rules, search rules, leaf_further _ _ start.requires.1.0 _ _ _ deep.if1.false _ read.page_at.ensures _ way.way-to.ensures _ c.before.place_at.ensures start.requires.1.2)))
+    (search rules, (search rules, search rules, leaf_further _ _ c.requires.1.0 _ _ _ c.if-depth-eq0.false _ c.page_at-g.ensures _ c.way_to-i.ensures _ c.place_at-place.ensures c.requires.1.2)))
     (λ c κs.
-    let below = c.before.before.before in
-    let way = below .before .before .before in
-    let read = way.before.before in
-    let deep = read.before.before in
-    let start = deep.before.before in
-    (below .trim-below .ensures .pages .ready, read_laid _ _ start.requires.1.0.ready _ _ read.page_at.ensures, way-used _ _ start.requires.1.0 _ _ _ deep.if1.false _ read.page_at.ensures _ way.way-to.ensures start.requires.1.2, search rules, search rules, below .trim-below .ensures .waits))
+    (c.trim_below-waiting.ensures.pages.ready, read_laid _ _ c.requires.1.0.ready _ _ c.page_at-g.ensures, way-used _ _ c.requires.1.0 _ _ _ c.if-depth-eq0.false _ c.page_at-g.ensures _ c.way_to-i.ensures c.requires.1.2, search rules, search rules, c.trim_below-waiting.ensures.waits))
     (λ c. search rules)
     (λ c.
-    let place = c.before.before in
-    let below = place.before.before.before.before in
-    let way = below .before .before .before in
-    let read = way.before.before in
-    let deep = read.before.before in
-    let start = deep.before.before in
-    trimmed_deeper _ _ start.requires.1.0 _ _ _ deep.if1.false _ read.page_at.ensures _ way.way-to.ensures _ (below .before .before .place_at .ensures) _ _ _ _ _ (below .trim-below .ensures) place.trim-place.ensures)
+    trimmed_deeper _ _ c.requires.1.0 _ _ _ c.if-depth-eq0.false _ c.page_at-g.ensures _ c.way_to-i.ensures _ (c.place_at-place.ensures) _ _ _ _ _ (c.trim_below-waiting.ensures) c.trim_place.ensures)

@@ -10,10 +10,10 @@ use Rattle.trim.proofs.Waiting.{none_added, room-left, room_fits, more_fits, one
 use Rattle.trim.proofs.add_orphans.Statement.{statement}
 use Rattle.trim.proofs.add_orphans.Tie as tie
 
-abbrev invariant-loop : tie.invariant-loop
+abbrev invariant-loop : tie.invariant-loop-i
 invariant-loop level g n r₀ i₀ r i = Added r₀ level (take i (contents g).places) r × (length r.list ≡ 12)
 
-abbrev decreases-loop : tie.decreases-loop
+abbrev decreases-loop : tie.decreases-loop-i
 decreases-loop level g n r₀ i₀ r i = n - i
 
 pub add_orphans_spec : {M : Type 1} → statement M

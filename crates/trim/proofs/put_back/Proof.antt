@@ -6,10 +6,10 @@ use Rattle.page.specs.Laws.{length_mapped}
 use Rattle.trim.proofs.put_back.Statement.{statement}
 use Rattle.trim.proofs.put_back.Tie as tie
 
-abbrev invariant-loop : tie.invariant-loop
+abbrev invariant-loop : tie.invariant-loop-i
 invariant-loop store₀ waiting n i₀ store i = PutBack store₀ waiting store i
 
-abbrev decreases-loop : tie.decreases-loop
+abbrev decreases-loop : tie.decreases-loop-i
 decreases-loop store₀ waiting n i₀ store i = n - i
 
 pub put_back_spec : {M : Type 1} → statement M

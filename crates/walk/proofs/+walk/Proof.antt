@@ -16,6 +16,7 @@ use Rattle.walk.proofs.+walk.Lts-walk as walk-lts
 use Rattle.page.proofs.place_at.Reads as place-at-reads
 use Rattle.walk.proofs.page_there.Reads as page-there-reads
 use Rattle.walk.proofs.visit.Reads as visit-reads
+use Rattle.std.proofs.Common.{ap, not}
 use Rattle.walk.proofs.+walk.{statement}
 use Rattle.walk.proofs.+walk.Tie.{close}
 
@@ -28,10 +29,10 @@ walk_at t = and 2 walk-kinds.ps (is 2 walk-kinds.ps μ_walk t) walk.Pre
 abbrev walk_below : ℕ → In 2 walk-kinds.ps
 walk_below t = and 2 walk-kinds.ps (falls 2 walk-kinds.ps ◌<◌ μ_walk t) walk.Pre
 
-abbrev walk-Inv-loop : walk-lts.invariant-loop
+abbrev walk-Inv-loop : walk-lts.invariant-loop-i
 walk-Inv-loop store level flags₀ g n i₀ flags i = Walking (store_of store).pages (level - 1) (contents g).places flags₀ n i flags
 
-abbrev walk_μ_loop : walk-lts.decreases-loop
+abbrev walk_μ_loop : walk-lts.decreases-loop-i
 walk_μ_loop store level flags₀ g n i₀ flags i = n - i
 
 pub +walk_spec : {M : Type 1} → statement M
@@ -62,26 +63,14 @@ pub +walk_spec : {M : Type 1} → statement M
     (λ c κs. search rules)
     (λ c. search rules)
     (λ c κs.
-    let a = c.before.before.before.before in
-    let s = a.before.before.before.before.before.before.before.before.before.before.before.before in
-    let v = a.before.before.before.before.before.before.before.before.visit in
-    (omega (arith, s.requires.0, s.requires.1.level), child_to_walk s.args.store.now s.args.level s.args.at s.args.flags.now s.requires.1 _ v.ensures.0 _ v.ensures.1 a.before.before.before.before.before.if1.false _ a.before.before.before.before.page_there.ensures a.before.before.before.if2.false a.before.if3.false _ refl _ _ c.before.before.before.loop.invariant c.before.before.loop-test.true _ c.before.place_at.ensures))
-    (λ c. c.before.before.before.walk.ensures.flags ∙ sym c.before.before.before.before.before.before.before.before.before.before.before.before.before.before.before.before.before.before.before.before.requires.1.flags)
+    (omega (arith, c.requires.0, c.requires.1.level), child_to_walk c.args.store.now c.args.level c.args.at c.args.flags.now c.requires.1 _ c.visit.ensures.0 _ c.visit.ensures.1 (ap not c.if-not-visit.false) _ c.page_there-g.ensures c.if-level-eq1.false c.if-g-ne2.false _ refl _ _ c.loop-i.invariant c.loop-i-test.true _ c.place_at-e.ensures))
+    (λ c. c.walk.ensures.flags ∙ sym c.requires.1.flags)
     (λ c.
-    let a = c.before.before.before.before.before.before.before.before in
-    let s = a.before.before.before.before.before.before.before.before.before.before.before.before in
-    let v = a.before.before.before.before.before.before.before.before.visit in
-    child_bad s.args.store.now s.args.level s.args.at s.args.flags.now s.requires.1 _ v.ensures.0 _ v.ensures.1 a.before.before.before.before.before.if1.false _ a.before.before.before.before.page_there.ensures a.before.before.before.if2.false a.before.if3.false _ refl _ _ c.before.before.before.before.before.before.before.loop.invariant c.before.before.before.before.before.before.loop-test.true _ c.before.before.before.before.before.place_at.ensures _ _ c.before.before.before.walk.ensures c.if4.true)
+    child_bad c.args.store.now c.args.level c.args.at c.args.flags.now c.requires.1 _ c.visit.ensures.0 _ c.visit.ensures.1 (ap not c.if-not-visit.false) _ c.page_there-g.ensures c.if-level-eq1.false c.if-g-ne2.false _ refl _ _ c.loop-i.invariant c.loop-i-test.true _ c.place_at-e.ensures _ _ c.walk.ensures (ap not c.if-not-walk.true))
     (λ c. search rules)
     (λ c. search rules)
     (λ c.
-    let a = c.before.before.before.before.before.before.before.before in
-    let s = a.before.before.before.before.before.before.before.before.before.before.before.before in
-    let v = a.before.before.before.before.before.before.before.before.visit in
-    child_good s.args.store.now s.args.level s.args.at s.args.flags.now s.requires.1 _ v.ensures.0 _ v.ensures.1 a.before.before.before.before.before.if1.false _ a.before.before.before.before.page_there.ensures a.before.before.before.if2.false a.before.if3.false _ refl _ _ c.before.before.before.before.before.before.before.loop.invariant c.before.before.before.before.before.before.loop-test.true _ c.before.before.before.before.before.place_at.ensures _ _ c.before.before.before.walk.ensures c.if4.false)
-    (λ c. c.before.loop.invariant.flags ∙ sym c.before.before.before.before.before.before.before.before.before.before.before.before.before.before.requires.1.flags)
+    child_good c.args.store.now c.args.level c.args.at c.args.flags.now c.requires.1 _ c.visit.ensures.0 _ c.visit.ensures.1 (ap not c.if-not-visit.false) _ c.page_there-g.ensures c.if-level-eq1.false c.if-g-ne2.false _ refl _ _ c.loop-i.invariant c.loop-i-test.true _ c.place_at-e.ensures _ _ c.walk.ensures (ap not c.if-not-walk.false))
+    (λ c. c.loop-i.invariant.flags ∙ sym c.requires.1.flags)
     (λ c.
-    let a = c.before.before in
-    let s = a.before.before.before.before.before.before.before.before.before.before.before.before in
-    let v = a.before.before.before.before.before.before.before.before.visit in
-    walk_ends s.args.store.now s.args.level s.args.at s.args.flags.now s.requires.1 _ v.ensures.0 _ v.ensures.1 a.before.before.before.before.before.if1.false _ a.before.before.before.before.page_there.ensures a.before.before.before.if2.false a.before.if3.false _ refl _ _ c.before.loop.invariant c.loop-test.false)
+    walk_ends c.args.store.now c.args.level c.args.at c.args.flags.now c.requires.1 _ c.visit.ensures.0 _ c.visit.ensures.1 (ap not c.if-not-visit.false) _ c.page_there-g.ensures c.if-level-eq1.false c.if-g-ne2.false _ refl _ _ c.loop-i.invariant c.loop-i-test.false)

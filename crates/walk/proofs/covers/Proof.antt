@@ -9,10 +9,10 @@ use Rattle.walk.specs.Walk.{covered}
 use Rattle.walk.proofs.covers.Statement.{statement}
 use Rattle.walk.proofs.covers.Tie as tie
 
-abbrev invariant-loop : tie.invariant-loop
+abbrev invariant-loop : tie.invariant-loop-i
 invariant-loop store g n i₀ i = (i ≤ n) × Passed (covered (store_of store).pages) (contents g).places i
 
-abbrev decreases-loop : tie.decreases-loop
+abbrev decreases-loop : tie.decreases-loop-i
 decreases-loop store g n i₀ i = n - i
 
 pub covers_spec : {M : Type 1} → statement M

@@ -5,10 +5,10 @@ use Prim.Native.Nat.{◌≤◌, ◌-◌}
 use Rattle.walk.proofs.pages_hold.Statement.{statement}
 use Rattle.walk.proofs.pages_hold.Tie as tie
 
-abbrev invariant-loop : tie.invariant-loop
+abbrev invariant-loop : tie.invariant-loop-i
 invariant-loop store flags p i₀ i = (i ≤ p) × Held store flags i
 
-abbrev decreases-loop : tie.decreases-loop
+abbrev decreases-loop : tie.decreases-loop-i
 decreases-loop store flags p i₀ i = p - i
 
 pub pages_hold_spec : {M : Type 1} → statement M

@@ -7,10 +7,10 @@ use Rattle.watch.proofs.Laws.{Watching, watching_all, board_off, board_on, board
 use Rattle.watch.proofs.boards_sound.Statement.{statement}
 use Rattle.watch.proofs.boards_sound.Tie as tie
 
-abbrev invariant-loop : tie.invariant-loop
+abbrev invariant-loop : tie.invariant-loop-i
 invariant-loop store n i₀ i = (i ≤ n) × Watching store i
 
-abbrev decreases-loop : tie.decreases-loop
+abbrev decreases-loop : tie.decreases-loop-i
 decreases-loop store n i₀ i = n - i
 
 pub boards_sound_spec : {M : Type 1} → statement M

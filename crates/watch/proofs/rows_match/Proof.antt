@@ -6,10 +6,10 @@ use Rattle.watch.proofs.Laws.{Matching, row_off, row_on, rows_all}
 use Rattle.watch.proofs.rows_match.Statement.{statement}
 use Rattle.watch.proofs.rows_match.Tie as tie
 
-abbrev invariant-loop : tie.invariant-loop
+abbrev invariant-loop : tie.invariant-loop-i
 invariant-loop store b keys n i₀ i = (i ≤ n) × Matching store b keys n i
 
-abbrev decreases-loop : tie.decreases-loop
+abbrev decreases-loop : tie.decreases-loop-i
 decreases-loop store b keys n i₀ i = n - i
 
 pub rows_match_spec : {M : Type 1} → statement M
