@@ -20,7 +20,8 @@ use Rattle.rules.specs.Memo.{look_up, noted, lowered, lowered_all}
 use Rattle.rules.specs.Cleaning.{smallest_mark}
 use Rattle.rules.specs.Views.{MemoInRange}
 use Rattle.rules.specs.laws.All.{All}
-use Rattle.rules.specs.laws.Memo.{room_for, noted-in_range, lowered-in_range, inspected-in_range}
+use Rattle.rules.specs.laws.Memo.{room_for, noted-in_range}
+use Rattle.rules.proofs.Memo.{lowered-in_range, inspected-in_range}
 use Rattle.rules.specs.laws.Parts.{with_memo}
 use Rattle.rules.specs.laws.Placed.{memo_part, memo_back}
 use Rattle.page.specs.declared.Page.{Page}

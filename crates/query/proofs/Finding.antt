@@ -14,7 +14,7 @@ use Rattle.rules.specs.laws.Order.{length_reordered}
 use Rattle.sort.specs.Sorted.{sorted, worked}
 use Rattle.sort.specs.Laws.{sorted_moves}
 use Rattle.query.specs.Keys.{row_of_key, keys_at, keys_in, Searchable, Written, Found}
-use Rattle.query.specs.Rows.{keys_most, rows_many, rows_found}
+use Rattle.query.proofs.Rows.{keys_most, rows_many, rows_found}
 
 module _ (v : List ℕ) (h : Searchable v) (level : ℕ) (levels : level ≡ get_or v 3 0) where
   level_read : level ≡ (store_of v).levels

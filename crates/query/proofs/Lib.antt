@@ -1,3 +1,5 @@
+pub mod Descent
+pub mod Rows
 pub mod Lent
 pub mod Left
 pub mod Writing

@@ -20,7 +20,8 @@ use Rattle.rules.specs.Views.{sound-holds}
 use Rattle.rules.specs.laws.Tests.{not_both, and_both}
 use Rattle.rules.specs.laws.All.{All, more, tail_of, all_map, all_append, all_back, all_kept, all_unmapped, all_member, all_members, always, Mem}
 use Rattle.rules.specs.laws.Order.{◌~◌, back, all_reordered, length_reordered}
-use Rattle.rules.specs.laws.Memo.{known, in_order, latest_known, times_less, known-lowered_all, lowered_all-in_range}
+use Rattle.rules.specs.laws.Memo.{known, in_order, latest_known, times_less}
+use Rattle.rules.proofs.Memo.{known-lowered_all, lowered_all-in_range}
 use Rattle.rules.specs.laws.Counts.{count_some}
 use Rattle.rules.specs.laws.Obsolete.{SlotSaid, slot_said, room-left, some_old, fades_lowered, not_freed}
 use Rattle.theorems.specs.Leaves.{with_mark, marked, leaf_marks}

@@ -11,7 +11,7 @@ use Rattle.rules.specs.Steps.{inspect}
 use Rattle.rules.specs.Views.{sound-holds}
 use Rattle.rules.specs.laws.All.{All, head_of, Mem}
 use Rattle.rules.specs.laws.Order.{all_reordered}
-use Rattle.rules.specs.laws.Memo.{all_inspected}
+use Rattle.rules.proofs.Memo.{all_inspected}
 use Rattle.theorems.specs.TreeSound.{tree_of-sound}
 use Rattle.theorems.specs.Leaves.{leaf_marks}
 use Rattle.theorems.specs.LeafToClean.{marks_limited, to_clean}

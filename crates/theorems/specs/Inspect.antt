@@ -20,7 +20,8 @@ use Rattle.rules.specs.Steps.{inspect}
 use Rattle.rules.specs.Views.{NotAbove, not_above_test, Rule7, sound-holds}
 use Rattle.rules.specs.laws.All.{All, none, head_of, always, all_map, all_zip, all_mapped, Mem}
 use Rattle.rules.specs.laws.Order.{same, all_reordered}
-use Rattle.rules.specs.laws.Memo.{known, in_order, latest_known, not_above-known, known-inspected, known_member, inspected-in_range}
+use Rattle.rules.specs.laws.Memo.{known, in_order, latest_known, not_above-known, known_member}
+use Rattle.rules.proofs.Memo.{known-inspected, inspected-in_range}
 use Rattle.rules.specs.laws.Counts.{count_left}
 use Rattle.rules.specs.laws.Obsolete.{slot_said, some_old, fades_inspected, unless_stays}
 use Rattle.theorems.specs.TreeSound.{TreeSound, tree_of-sound, tree_kept}

@@ -1,13 +1,12 @@
 -- Laws of boxes: which lie within which, what covers them, and how large a proper one can be.
-use Rattle.std.specs.Prelude.{◌≤◌, ◌<◌, ◌*◌, ◌^◌, ◌≡◌, true, length}
+use Rattle.std.specs.Prelude.{◌≤◌, ◌<◌, ◌*◌, ◌^◌, ◌≡◌, length}
 use native.Mathlib.Omega.{arith}
 use Rattle.std.proofs.Common.{mul-le-mul}
 use Rattle.std.proofs.Math.Path.{refl}
 use mathlib.Core.List.{List, [], ◌∷◌}
 use Rattle.rules.specs.declared.Box.{Box}
-use Rattle.rules.specs.declared.Window.{Window}
-use Rattle.rules.specs.Boxes.{edge, meets, area, cover, cover_of}
-use Rattle.rules.specs.Views.{ProperBox, meets-holds, meets_test}
+use Rattle.rules.specs.Boxes.{edge, area, cover, cover_of}
+use Rattle.rules.specs.Views.{ProperBox}
 use Rattle.rules.specs.laws.All.{All, none, more, all_map}
 
 -- ---- a box within another
@@ -22,10 +21,6 @@ within_itself a = omega arith
 
 pub within_both : {a b c : Box} → Within a b → Within b c → Within a c
 within_both h k = omega arith
-
--- what meets a box meets every wider one
-pub meets_wider : (a b : Box) (w : Window) → Within a b → meets a w ≡ true → meets b w ≡ true
-meets_wider a b w h e = let m = meets-holds a w e in meets_test b w (omega arith)
 
 -- ---- the cover of two
 pub within_cover-left : (a b : Box) → Within a (cover a b)

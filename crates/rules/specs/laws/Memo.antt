@@ -1,8 +1,8 @@
 -- Laws of the memo: slots in ascending train, what a look_up finds in them, and what noting, lowering and inspecting change.
-use Rattle.std.specs.Prelude.{ℕ, zero, suc, ◌<◌, ◌≤◌, ◌-◌, ◌+◌, ◌≡◌, ◌&&◌, Bool, not, eqb, ltb, leb, set, length, get_or, replicate, take}
-use Rattle.std.proofs.Common.{arith, suc-add, zero-add, ◌∙◌, subst, take-suc, length-set}
+use Rattle.std.specs.Prelude.{ℕ, zero, suc, ◌<◌, ◌≤◌, ◌-◌, ◌≡◌, ◌&&◌, eqb, ltb, leb, set, length, get_or, replicate, take}
+use Rattle.std.proofs.Common.{arith, ◌∙◌, take-suc, length-set}
 use Rattle.std.proofs.Math.Path.{refl, ap, sym}
-use Rattle.std.proofs.Math.Bool.{true, false, cond}
+use Rattle.std.proofs.Math.Bool.{false, cond}
 use mathlib.Core.List.Memᴰ
 use mathlib.Core.List.{List, [], ◌∷◌, ◌++◌, map, append-nil}
 use Rattle.std.proofs.lemmas.List.{set-append_left}
@@ -13,9 +13,9 @@ use Rattle.rules.specs.declared.Entry.{Entry}
 use Rattle.rules.specs.declared.Slot.{Slot}
 use Rattle.rules.specs.declared.LookUp.{LookUp}
 use Rattle.rules.specs.declared.LookUp.TheVariants.{Absent, Found}
-use Rattle.rules.specs.Lists.{count, one_if, without, keep, put_if}
+use Rattle.rules.specs.Lists.{keep}
 use Rattle.rules.specs.Store.{Store, limit, train_of}
-use Rattle.rules.specs.Memo.{look_up, one_further, is_absent, latest_by, is_latest, slot_inserted, noted_by, noted, lowered_by, lowered, inspected, lowered_all}
+use Rattle.rules.specs.Memo.{look_up, one_further, is_absent, latest_by, is_latest, slot_inserted, noted_by, noted, inspected}
 use Rattle.rules.specs.Sound.{not_above}
 use Rattle.rules.specs.Views.{HeaderInRange, MemoInRange, Rule6}
 use Rattle.rules.specs.laws.Tests.{either}
@@ -76,7 +76,7 @@ absent_before t none = refl
 absent_before t (more {x = m} h a) = rw (ne_eqb m.train.0 t.0 (omega arith), absent_before t a)
 
 -- the look_up among a slot and later ones
-look_up-case : (P : LookUp → Type 0) (t : Train) (m : Slot) (ms : List Slot)
+pub look_up-case : (P : LookUp → Type 0) (t : Train) (m : Slot) (ms : List Slot)
     → (m.train.0 ≡ t.0 → P (Found 0 m.latest m.old)) → ((m.train.0 ≡ t.0 → ⊥) → P (one_further (look_up t ms))) → P (look_up t (m ∷ ms))
 unfolding look_up
 look_up-case P t m ms here on = either P (eqb m.train.0 t.0) (λ e. here (eqb-true _ _ e)) (λ e. on (eqb-false _ _ e))
@@ -200,38 +200,9 @@ module _ (P : List Slot → Type 0) (t : Train) where
   noted-case s m ms (o_more a o) here before on =
       look_up-case (λ l. P (noted_by l t s (m ∷ ms))) t m ms here (λ d. noted-further s m ms (look_up t ms) a d (look_up-says t ms) before on)
 
-  -- at the train's slot, freed or with a count one less, or further on
-  lowered-further : (m : Slot) (ms : List Slot) (l : LookUp) → P (m ∷ lowered_by l t ms) → P (lowered_by (one_further l) t (m ∷ ms))
-  unfolding lowered_by one_further without
-  lowered-further m ms Absent h = h
-  lowered-further m ms (Found place latest old) h = go (eqb (old - 1) 0) h
-    where
-      go : (b : Bool) → P (m ∷ cond b (without ms place) (set ms place (slot t latest (old - 1))))
-          → P (cond b (without (m ∷ ms) (suc place)) (set (m ∷ ms) (suc place) (slot t latest (old - 1))))
-      go true k = k
-      go false k = k
-
-  pub lowered-case : (m : Slot) (ms : List Slot) → (m.train.0 ≡ t.0 → m.old ≤ 1 → P ms)
-      → (m.train.0 ≡ t.0 → 1 < m.old → P (slot t m.latest (m.old - 1) ∷ ms)) → ((m.train.0 ≡ t.0 → ⊥) → P (m ∷ lowered t ms)) → P (lowered t (m ∷ ms))
-  unfolding lowered lowered_by without
-  lowered-case m ms freed less on =
-      look_up-case (λ l. P (lowered_by l t (m ∷ ms))) t m ms
-      (λ e. either P (eqb (m.old - 1) 0) (λ z. freed e (omega (arith, eqb-true (m.old - 1) 0 z))) (λ z. less e (omega (arith, eqb-false (m.old - 1) 0 z))))
-      (λ d. lowered-further m ms (look_up t ms) (on d))
-
--- stays or freed, and the later ones
-pub inspected-case : (P : List Slot → Type 0) (mark : Stamp) (m : Slot) (ms : List Slot)
-    → (mark.0 ≤ m.latest.0 → P (m ∷ inspected mark ms)) → (m.latest.0 < mark.0 → P (inspected mark ms)) → P (inspected mark (m ∷ ms))
-unfolding inspected keep
-inspected-case P mark m ms stays freed = go (ltb m.latest.0 mark.0) refl
-  where
-    go : (b : Bool) → ltb m.latest.0 mark.0 ≡ b → P (put_if (not b) m (inspected mark ms))
-    go true e = freed (ltb-true _ _ e)
-    go false e = stays (ltb-false _ _ e)
-
 -- ---- what holds of every slot afterwards, by what held of every slot before
 module _ {P Q : Slot → Type 0} (t : Train) (other : (m : Slot) → (m.train.0 ≡ t.0 → ⊥) → P m → Q m) where
-  others : {n : ℕ} {ms : List Slot} → t.0 ≤ n → All (λ m. n < m.train.0) ms → All P ms → All Q ms
+  pub others : {n : ℕ} {ms : List Slot} → t.0 ≤ n → All (λ m. n < m.train.0) ms → All P ms → All Q ms
   others h a b = all_zip a b λ m l p. other m (omega arith) p
 
   pub all_noted : (s : Stamp) {ms : List Slot} → InOrder ms → All P ms → Q (slot t s (suc (old_in (known t ms)))) → All Q (noted t s ms)
@@ -243,22 +214,6 @@ module _ {P Q : Slot → Type 0} (t : Train) (other : (m : Slot) → (m.train.0 
       (λ h q. more (rw (known_none t (more {x = m} h (all_map a λ n l. omega arith))) at q) (more (other m (omega arith) p) (others (omega arith) a b)))
       (λ h q. more (other m (omega arith) p) (all_noted s o b (rw (known_on t m ms (omega arith)) at q)))
 
-  pub all_lowered : {ms : List Slot} → InOrder ms → All P ms
-      → ((m : Slot) → m.train.0 ≡ t.0 → 1 < m.old → P m → Q (slot t m.latest (m.old - 1))) → All Q (lowered t ms)
-  unfolding lowered lowered_by look_up
-  all_lowered o_none none same = none
-  all_lowered (o_more {m = m} {ms = ms} a o) (more p b) same =
-      lowered-case (All Q) t m ms
-      (λ e h. others (omega arith) a b)
-      (λ e h. more (same m e h p) (others (omega arith) a b))
-      (λ d. more (other m d p) (all_lowered o b same))
-
-pub all_inspected : {P Q : Slot → Type 0} (mark : Stamp) {ms : List Slot} → All P ms → ((m : Slot) → mark.0 ≤ m.latest.0 → P m → Q m) → All Q (inspected mark ms)
-unfolding inspected keep
-all_inspected mark none f = none
-all_inspected {Q = Q} mark (more {x = m} {xs = ms} p b) f =
-    inspected-case (All Q) mark m ms (λ h. more (f m h p) (all_inspected mark b f)) (λ h. all_inspected mark b f)
-
 -- ---- the slots stay in ascending train
 pub noted_in_order : (t : Train) (s : Stamp) {ms : List Slot} → InOrder ms → InOrder (noted t s ms)
 unfolding noted noted_by look_up slot_inserted
@@ -269,38 +224,11 @@ noted_in_order t s (o_more {m = m} {ms = ms} a o) =
     (λ h. o_more (more h (all_map a λ n l. omega arith)) (o_more a o))
     (λ h. o_more (all_noted t (λ n d l. l) s o a h) (noted_in_order t s o))
 
-pub lowered_in_order : (t : Train) {ms : List Slot} → InOrder ms → InOrder (lowered t ms)
-unfolding lowered lowered_by look_up
-lowered_in_order t o_none = o_none
-lowered_in_order t (o_more {m = m} {ms = ms} a o) =
-    lowered-case InOrder t m ms
-    (λ e h. o)
-    (λ e h. o_more (all_map a λ n l. omega arith) o)
-    (λ d. o_more (all_lowered t (λ n d l. l) o a (λ n e h l. omega arith)) (lowered_in_order t o))
-
-pub inspected_in_order : (mark : Stamp) {ms : List Slot} → InOrder ms → InOrder (inspected mark ms)
-unfolding inspected keep
-inspected_in_order mark o_none = o_none
-inspected_in_order mark (o_more {m = m} {ms = ms} a o) =
-    inspected-case InOrder mark m ms (λ h. o_more (all_inspected mark a λ n k l. l) (inspected_in_order mark o)) (λ h. inspected_in_order mark o)
-
 -- ---- and there is room for them
 noted-length : (k : ℕ) (t : Train) (s : Stamp) (ms : List Slot) (l : LookUp) → length ms ≤ k → (l ≡ Absent → length ms < k) → length (noted_by l t s ms) ≤ k
 unfolding noted_by
 noted-length k t s ms Absent h f = rw inserted-length (f refl)
 noted-length k t s ms (Found place latest old) h f = rw length-set h
-
-lowered-length : (t : Train) (ms : List Slot) → length (lowered t ms) ≤ length ms
-unfolding lowered lowered_by look_up
-lowered-length t [] = omega arith
-lowered-length t (m ∷ ms) =
-    lowered-case (λ l. length l ≤ suc (length ms)) t m ms (λ e h. omega arith) (λ e h. omega arith) (λ d. omega (arith, lowered-length t ms))
-
-inspected-length : (mark : Stamp) (ms : List Slot) → length (inspected mark ms) ≤ length ms
-unfolding inspected keep
-inspected-length mark [] = omega arith
-inspected-length mark (m ∷ ms) =
-    inspected-case (λ l. length l ≤ suc (length ms)) mark m ms (λ h. omega (arith, inspected-length mark ms)) (λ h. omega (arith, inspected-length mark ms))
 
 module _ (k : ℕ) {ms : List Slot} (r : MemoInRange k ms) where
   pub noted-in_range : (t : Train) (s : Stamp) → 1 ≤ t.0 → (look_up t ms ≡ Absent → length ms < k) → MemoInRange k (noted t s ms)
@@ -311,23 +239,6 @@ module _ (k : ℕ) {ms : List Slot} (r : MemoInRange k ms) where
         used_most = noted-length k t s ms (look_up t ms) r.used_most f;
         trains = all_noted t (λ m d l. l) s o r.trains h;
         ascends = ascends (noted_in_order t s o);
-      }
-
-  pub lowered-in_range : (t : Train) → MemoInRange k (lowered t ms)
-  lowered-in_range t =
-      let o = in_order ms r.ascends in
-      record {
-        used_most = omega (arith, lowered-length t ms, r.used_most);
-        trains = all_lowered t (λ m d l. l) o r.trains (λ m e h l. omega arith);
-        ascends = ascends (lowered_in_order t o);
-      }
-
-  pub inspected-in_range : (mark : Stamp) → MemoInRange k (inspected mark ms)
-  inspected-in_range mark =
-      record {
-        used_most = omega (arith, inspected-length mark ms, r.used_most);
-        trains = all_inspected mark r.trains λ m h l. l;
-        ascends = ascends (inspected_in_order mark (in_order ms r.ascends));
       }
 
 -- ---- what is noted of the train, and of others, afterwards
@@ -350,18 +261,9 @@ known-noted t s (o_more {m = m} {ms = ms} a o) =
     (λ h. rw (known_none t (more {x = m} h (all_map a λ n l. omega arith))) (known_here t (slot t s 1) (m ∷ ms) refl))
     (λ h. rw (known_on t m ms (omega arith)) (known_on t m (noted t s ms) (omega arith) ∙ known-noted t s o))
 
-pub known-lowered : (t : Train) {ms : List Slot} → InOrder ms → known t (lowered t ms) ≡ one_less (known t ms)
-unfolding lowered lowered_by look_up one_less
-known-lowered t o_none = rw (known_none t none)
-known-lowered t (o_more {m = m} {ms = ms} a o) =
-    lowered-case (λ l. known t l ≡ one_less (known t (m ∷ ms))) t m ms
-    (λ e h. rw (known_here t m ms e, eq-eqb (m.old - 1) 0 (omega arith)) (known_none t (all_map a λ n l. omega arith)))
-    (λ e h. rw (known_here t m ms e, ne_eqb (m.old - 1) 0 (omega arith)) (known_here t (slot t m.latest (m.old - 1)) ms refl))
-    (λ d. rw (known_on t m ms d) (known_on t m (lowered t ms) d ∙ known-lowered t o))
-
 -- another train's slot stays
 module _ (u t : Train) (d : u.0 ≡ t.0 → ⊥) where
-  known_either : (m : Slot) (ls ms : List Slot) → known u ls ≡ known u ms → known u (m ∷ ls) ≡ known u (m ∷ ms)
+  pub known_either : (m : Slot) (ls ms : List Slot) → known u ls ≡ known u ms → known u (m ∷ ls) ≡ known u (m ∷ ms)
   unfolding known
   known_either m ls ms h = rw h
 
@@ -374,58 +276,10 @@ module _ (u t : Train) (d : u.0 ≡ t.0 → ⊥) where
       (λ h. known_on u (slot t s 1) (m ∷ ms) (omega arith))
       (λ h. known_either m (noted t s ms) ms (known-noted_other s o))
 
-  pub known-lowered_other : (ms : List Slot) → known u (lowered t ms) ≡ known u ms
-  unfolding lowered lowered_by look_up
-  known-lowered_other [] = refl
-  known-lowered_other (m ∷ ms) =
-      lowered-case (λ l. known u l ≡ known u (m ∷ ms)) t m ms
-      (λ e h. sym (known_on u m ms (omega arith)))
-      (λ e h. known_on u (slot t m.latest (m.old - 1)) ms (omega arith) ∙ sym (known_on u m ms (omega arith)))
-      (λ n. known_either m (lowered t ms) ms (known-lowered_other ms))
-
--- a slot stays as it is, or goes
-pub known-inspected : (u : Train) (mark : Stamp) {ms : List Slot} → InOrder ms → known u (inspected mark ms) ≡ unless_below mark (known u ms)
-unfolding inspected keep unless_below
-known-inspected u mark o_none = rw (known_none u none)
-known-inspected u mark (o_more {m = m} {ms = ms} a o) =
-    let ih = known-inspected u mark o in
-    known-case (λ l. known u (inspected mark (m ∷ ms)) ≡ unless_below mark l) u m ms
-    (λ e.
-    inspected-case (λ l. known u l ≡ unless_below mark (Found 0 m.latest m.old)) mark m ms
-    (λ h. rw (le-ltb m.latest.0 mark.0 h) (known_here u m (inspected mark ms) e))
-    (λ h. rw (lt-ltb m.latest.0 mark.0 h) (ih ∙ ap (unless_below mark) (known_none u (all_map a λ n l. omega arith)))))
-    (λ d. inspected-case (λ l. known u l ≡ unless_below mark (known u ms)) mark m ms (λ h. known_on u m (inspected mark ms) d ∙ ih) (λ h. ih))
-
--- ---- each removed entry lowers its train's count
-pub lowered_all_in_order : (es : List Entry) {ms : List Slot} → InOrder ms → InOrder (lowered_all es ms)
-unfolding lowered_all
-lowered_all_in_order [] o = o
-lowered_all_in_order (e ∷ es) o = lowered_all_in_order es (lowered_in_order (train_of e) o)
-
-pub lowered_all-in_range : (k : ℕ) (es : List Entry) {ms : List Slot} → MemoInRange k ms → MemoInRange k (lowered_all es ms)
-unfolding lowered_all
-lowered_all-in_range k [] r = r
-lowered_all-in_range k (e ∷ es) r = lowered_all-in_range k es (lowered-in_range k r (train_of e))
-
 -- one less as often as an entry of the train goes
 unfoldable pub times_less : ℕ → LookUp → LookUp
 times_less zero l = l
 times_less (suc n) l = times_less n (one_less l)
-
-lowered_once : (u t : Train) {ms : List Slot} → InOrder ms → (n : ℕ) (b : Bool) → eqb t.0 u.0 ≡ b
-    → times_less n (known u (lowered t ms)) ≡ times_less (one_if b + n) (known u ms)
-unfolding times_less
-lowered_once u t {ms = ms} o n true q =
-    let same : t ≡ u = λ i. record { 0 = eqb-true t.0 u.0 q i } in
-    rw (suc-add, zero-add) (ap (times_less n) (subst (λ v. known v (lowered t ms) ≡ one_less (known v ms)) same (known-lowered t o)))
-lowered_once u t {ms = ms} o n false q = rw zero-add (ap (times_less n) (known-lowered_other u t (λ f. eqb-false _ _ q (sym f)) ms))
-
-pub known-lowered_all : (u : Train) (es : List Entry) {ms : List Slot} → InOrder ms
-    → known u (lowered_all es ms) ≡ times_less (count (λ e. eqb (train_of e).0 u.0) es) (known u ms)
-unfolding lowered_all times_less count
-known-lowered_all u [] o = refl
-known-lowered_all u (e ∷ es) o =
-    known-lowered_all u es (lowered_in_order (train_of e) o) ∙ lowered_once u (train_of e) o (count _ es) (eqb (train_of e).0 u.0) refl
 
 -- ---- what noting asks for: room where the train has no slot, and counts that may rise
 pub room_for : (t : Train) (k : ℕ) (ms : List Slot) → (is_absent (look_up t ms) && leb k (length ms)) ≡ false → look_up t ms ≡ Absent → length ms < k

@@ -21,7 +21,7 @@ use Rattle.rules.specs.laws.Rows.{RowsAscend, r_none, r_more, Apart, same_member
 use Rattle.sort.specs.Sorted.{sorted}
 use Rattle.sort.specs.Laws.{InOrder, o_none, o_more, sorted_moves, sorted_in_order}
 use Rattle.query.specs.Keys.{row_of_key, hit, keys_in, Searchable, Found}
-use Rattle.query.specs.Descent.{ByTrain, Searched, rows_under, trains_under}
+use Rattle.query.proofs.Descent.{ByTrain, Searched, rows_under, trains_under}
 
 -- ---- keeping leaves no more, and no two alike where there were none
 kept_most : {A : Type 0} (f : A → Bool) (xs : List A) → length (keep f xs) ≤ length xs

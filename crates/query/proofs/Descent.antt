@@ -22,7 +22,8 @@ use Rattle.rules.specs.Views.{Levelled}
 use Rattle.rules.specs.laws.Tests.{either, and_right, not_fails, not_both}
 use Rattle.rules.specs.laws.All.{All, none, more, all_map, all_at, all_zip, flat_all, always}
 use Rattle.rules.specs.laws.Kept.{keep_append}
-use Rattle.rules.specs.laws.Boxes.{Within, within_both, meets_wider, within_cover_of}
+use Rattle.rules.specs.laws.Boxes.{Within, within_both, within_cover_of}
+use Rattle.rules.proofs.Boxes.{meets_wider}
 use Rattle.query.specs.Keys.{train_unit, key_of, entry_named, row_of_key, hit, leaf_keys, keys_under}
 
 -- ---- lists

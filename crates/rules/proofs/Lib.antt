@@ -1,0 +1,3 @@
+-- Laws that fall with a wrong definition of what they speak of.
+pub mod Boxes
+pub mod Memo
