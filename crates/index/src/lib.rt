@@ -68,7 +68,7 @@ pub fn start(p: u32, k: u32, b: u32, store: &mut [u32]) -> u32
 
 // The steps, one after the other, each answered by its number and its count. The entries held are counted once, before the first.
 fn run_all(store: &mut [u32], steps: &[u32], answers: &mut [u32])
-    requires store_value { sound_words store.old ≡ true }
+    requires sound { sound_words store.old ≡ true }
     requires answers_len { length answers.old ≡ 2 * (length steps.now / 6) }
     ensures { RanAll store.old steps.now store.new answers.new }
 {

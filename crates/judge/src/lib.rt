@@ -37,7 +37,7 @@ fn sizes_read(store: &[u32]) -> bool
 // Words 0, 4, 6 and 8: the form, and where the parts start.
 fn starts_right(store: &[u32], p: usize, k: usize) -> bool
     requires in_bounds { 16 ≤ length store.now }
-    requires p_bound { (p ≤ 192) × (k ≤ 1024) }
+    requires sizes_bound { (p ≤ 192) × (k ≤ 1024) }
     ensures { result ≡ all_of (eqb (get_or store.now 0 0) 1 ∷ eqb (get_or store.now 4 0) 16 ∷ eqb (get_or store.now 6 0) (memo_start p) ∷ eqb (get_or store.now 8 0) (boards_start p k) ∷ []) }
 {
     if store[0] != 1 {
@@ -70,7 +70,7 @@ fn rest_zero(store: &[u32]) -> bool
 // The right length, and words 0, 4, 6, 8 and 10 to 15.
 fn laid_out(store: &[u32]) -> bool
     requires in_bounds { 16 ≤ length store.now }
-    requires store_value { calls.sizes_read store.now ≡ true }
+    requires sizes_read { calls.sizes_read store.now ≡ true }
     ensures { result ≡ calls.laid_out store.now }
 {
     let p = header::pages(store);
@@ -86,8 +86,8 @@ fn laid_out(store: &[u32]) -> bool
 
 // Whether the store is sound: each part of the test relies on those before it.
 fn is_sound(store: &[u32]) -> bool
-    requires store_value { calls.sizes_read store.now ≡ true }
-    requires store_value_2 { calls.laid_out store.now ≡ true }
+    requires sizes_read { calls.sizes_read store.now ≡ true }
+    requires laid_out { calls.laid_out store.now ≡ true }
     ensures { result ≡ sound_words store.now }
 {
     if !tidy::is_tidy(store) {

@@ -133,7 +133,7 @@ pub fn is_full(memo: &[u32]) -> bool
 // Puts a new train's slot in: it goes in for the one at its place, that one for the next, and so on to the end.
 fn insert(memo: &mut [u32], new: Slot)
     requires memo_words { MemoWords memo.old }
-    requires memo_value { (look_up new.train (slots_in memo.old) ≡ Absent) × (length (slots_in memo.old) < room memo.old) }
+    requires absent_with_room { (look_up new.train (slots_in memo.old) ≡ Absent) × (length (slots_in memo.old) < room memo.old) }
     ensures { memo.new ≡ memo_words (room memo.old) (slot_inserted new (slots_in memo.old)) }
 {
     let t = new.train;
@@ -160,8 +160,8 @@ fn remove(memo: &mut [u32], at: usize)
 // Notes that this stamp of the train is the latest, which makes one more entry of it an old one.
 pub fn note(memo: &mut [u32], t: Train, stamp: Stamp)
     requires memo_words { MemoWords memo.old }
-    requires memo_len_bound { look_up t (slots_in memo.old) ≡ Absent → length (slots_in memo.old) < room memo.old }
-    requires all { All (λ m. m.old < limit) (slots_in memo.old) }
+    requires room_if_absent { look_up t (slots_in memo.old) ≡ Absent → length (slots_in memo.old) < room memo.old }
+    requires counts_below_limit { All (λ m. m.old < limit) (slots_in memo.old) }
     ensures { memo.new ≡ memo_words (room memo.old) (noted t stamp (slots_in memo.old)) }
 {
     let LookUp::Found {

@@ -40,7 +40,7 @@ pub fn no_slot_left(store: &[u32], t: Train) -> bool
 // Notes that this stamp of the train is the latest.
 pub fn note(store: &mut [u32], t: Train, stamp: Stamp)
     requires lent { Lent store.old × (1 ≤ t.0) × (promises.no_slot_left (store_of store.old) t ≡ false) }
-    requires all { All (λ m. m.old < limit) (store_of store.old).memo }
+    requires counts_below_limit { All (λ m. m.old < limit) (store_of store.old).memo }
     ensures { Became (with_memo (store_of store.old) (noted t stamp (store_of store.old).memo)) store.new }
 {
     let from = header::memo_start(header::pages(store));

@@ -177,7 +177,7 @@ fn close_number(store: &[u32], x: Step) -> u32
 
 // Takes the next stamp and notes it as the train's latest.
 fn take_stamp(store: &mut [u32], t: Train) -> Stamp
-    requires store_value { sound_words store.old ≡ true }
+    requires sound { sound_words store.old ≡ true }
     requires takes_stamp { TakesStamp (store_of store.old) t }
     ensures { StampTaken (store_of store.old) t store.new result }
 {
@@ -189,7 +189,7 @@ fn take_stamp(store: &mut [u32], t: Train) -> Stamp
 
 // Takes a stamp, puts the entry with it into a leaf and tells the boards; answers how many open ones list the train before or after.
 fn put_report(store: &mut [u32], x: Step) -> u32
-    requires store_value { sound_words store.old ≡ true }
+    requires sound { sound_words store.old ≡ true }
     requires accepted_report { AcceptedReport (store_of store.old) x }
     ensures { Effected (rules.report (store_of store.old) x) store.new result }
 {
@@ -232,7 +232,7 @@ fn refused(number: u32, held: usize) -> Outcome
 
 fn report(store: &mut [u32], x: Step, held: usize) -> Outcome
     requires given { Given store.old held }
-    requires x_value { (rules.in_form x ≡ true) × (x.kind ≡ 1) }
+    requires of_kind { (rules.in_form x ≡ true) × (x.kind ≡ 1) }
     ensures { Stepped (rules.step (store_of store.old) x) store.new result }
 {
     let number = report_number(store, x, held);
@@ -249,7 +249,7 @@ fn report(store: &mut [u32], x: Step, held: usize) -> Outcome
 
 fn withdraw(store: &mut [u32], x: Step, held: usize) -> Outcome
     requires given { Given store.old held }
-    requires x_value { (rules.in_form x ≡ true) × (x.kind ≡ 2) }
+    requires of_kind { (rules.in_form x ≡ true) × (x.kind ≡ 2) }
     ensures { Stepped (rules.step (store_of store.old) x) store.new result }
 {
     let number = withdraw_number(store, x);
@@ -268,7 +268,7 @@ fn withdraw(store: &mut [u32], x: Step, held: usize) -> Outcome
 
 fn clean(store: &mut [u32], x: Step, held: usize) -> Outcome
     requires given { Given store.old held }
-    requires x_value { (rules.in_form x ≡ true) × (x.kind ≡ 3) }
+    requires of_kind { (rules.in_form x ≡ true) × (x.kind ≡ 3) }
     ensures { Stepped (rules.step (store_of store.old) x) store.new result }
 {
     let removed = clean_leaf(store);
@@ -282,7 +282,7 @@ fn clean(store: &mut [u32], x: Step, held: usize) -> Outcome
 // Frees each slot whose stamp is below the smallest mark of a leaf.
 fn inspect(store: &mut [u32], x: Step, held: usize) -> Outcome
     requires given { Given store.old held }
-    requires x_value { (rules.in_form x ≡ true) × (x.kind ≡ 4) }
+    requires of_kind { (rules.in_form x ≡ true) × (x.kind ≡ 4) }
     ensures { Stepped (rules.step (store_of store.old) x) store.new result }
 {
     let freed = parts::inspect(store);
@@ -296,7 +296,7 @@ fn inspect(store: &mut [u32], x: Step, held: usize) -> Outcome
 // Opens a board with the rows of its window.
 fn open(store: &mut [u32], x: Step, held: usize) -> Outcome
     requires given { Given store.old held }
-    requires x_value { (rules.in_form x ≡ true) × (x.kind ≡ 5) }
+    requires of_kind { (rules.in_form x ≡ true) × (x.kind ≡ 5) }
     ensures { Stepped (rules.step (store_of store.old) x) store.new result }
 {
     let number = open_number(store, x);
@@ -320,7 +320,7 @@ fn open(store: &mut [u32], x: Step, held: usize) -> Outcome
 
 fn close(store: &mut [u32], x: Step, held: usize) -> Outcome
     requires given { Given store.old held }
-    requires x_value { (rules.in_form x ≡ true) × (x.kind ≡ 6) }
+    requires of_kind { (rules.in_form x ≡ true) × (x.kind ≡ 6) }
     ensures { Stepped (rules.step (store_of store.old) x) store.new result }
 {
     let number = close_number(store, x);

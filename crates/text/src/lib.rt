@@ -200,7 +200,7 @@ pub fn put_too_long(out: &mut [u8], at: usize) -> usize
 // A line for each of n steps, of six words, with its answer, of two: its kind, its number and its count.
 pub fn put_answers(steps: &[u32], answers: &[u32], n: usize, out: &mut [u8], at: usize) -> usize
     requires steps_len { (length steps.now ≡ 6 * n) × (length answers.now ≡ 2 * n) }
-    requires n_in_bounds { at + 33 * n ≤ length out.old }
+    requires out_len { at + 33 * n ≤ length out.old }
     ensures laid { Laid out.old at (spec.step_lines (cut n 6 steps.now) answers.now) out.new result }
     ensures upper_bound { result ≤ at + 33 * n }
 {

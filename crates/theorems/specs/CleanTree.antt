@@ -25,7 +25,7 @@ use Rattle.rules.specs.laws.Order.{◌~◌, ◌then◌, same, back, rear, all_re
 use Rattle.theorems.specs.TreeSound.{TreeSound, tree_of-sound}
 use Rattle.theorems.specs.Leaves.{MarkedEntry, with_mark, marked, leaf_marks}
 use Rattle.theorems.specs.LeafToClean.{marks_limited, to_clean}
-use Rattle.theorems.specs.tree.Items.{Item, no_node, page, entry, atoms, entries}
+use Rattle.theorems.specs.tree.Items.{Item, no_node, page, atoms, entries}
 use Rattle.theorems.specs.tree.Stands.{page_of, same_places, Stands}
 use Rattle.theorems.specs.tree.Laid.{atoms_top, laid_used}
 use Rattle.theorems.specs.tree.Descent.{held_all}

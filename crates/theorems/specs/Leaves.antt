@@ -1,5 +1,5 @@
 -- The leaves among the pages: the entries in them, each with its leaf's mark, and the marks.
-use Rattle.std.specs.Prelude.{ℕ, ◌+◌, ◌≡◌, refl, Bool, true, false, cond, length}
+use Rattle.std.specs.Prelude.{◌+◌, ◌≡◌, refl, Bool, true, false, cond, length}
 use Rattle.std.proofs.Common.{zero-add, sym, ◌∙◌, ap, ap₂, length-append, eqb-true, eq-eqb}
 use mathlib.Core.List.{List, [], ◌∷◌, ◌++◌, map, flat_map, map-append}
 use Rattle.rules.specs.declared.Stamp.{Stamp}

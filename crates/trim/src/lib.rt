@@ -234,7 +234,7 @@ fn trim_below(
 // Puts back what waits, in turn, each place into a page at its level.
 fn put_back(store: &mut [u32], waiting: Orphans)
     requires ready { Ready (length (store_of store.old).pages) store.old }
-    requires store_bound { ((store_of store.old).levels ≤ 5) × Waits ((store_of store.old).levels - 1) waiting }
+    requires waits { ((store_of store.old).levels ≤ 5) × Waits ((store_of store.old).levels - 1) waiting }
     ensures { Grown (length (store_of store.old).pages) store.old (put_back (held_by waiting) (tree_of (store_of store.old))) store.new }
 {
     let n = waiting.count;

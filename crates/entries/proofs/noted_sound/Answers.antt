@@ -10,7 +10,7 @@ pub returns-then-not-first_distinct : goal.returns-then-not-first_distinct
 returns-then-not-first_distinct c = search (rules, entry_broken, stamps_enough, count_fits, stamps_equal, keys_enough, keys_equal, counters_enough, by_slots)
 
 pub returns-then-not-first_distinct-2 : goal.returns-then-not-first_distinct-2
-returns-then-not-first_distinct-2 c = search (rules, entry_broken, stamps_enough, count_fits, stamps_equal, keys_enough, keys_equal, counters_enough, by_slots)
+returns-then-not-first_distinct-2 c = search (rules, entry_broken, stamps_equal, keys_equal, by_slots)
 
 pub returns : goal.returns
-returns c = search (rules, entry_broken, stamps_enough, count_fits, stamps_equal, keys_enough, keys_equal, counters_enough, by_slots)
+returns c = search (rules, by_slots)

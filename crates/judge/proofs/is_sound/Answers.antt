@@ -17,19 +17,19 @@ returns-then-not-is_tree c = search (rules, tree_off)
 
 pub entries_sound-requires : goal.entries_sound-requires
 entries_sound-requires c =
-    tree_given c.args.store.now c.requires.store_value c.requires.store_value_2 _ c.is_tidy.ensures (ap not c.if-not-is_tidy.false) _ c.is_tree.ensures (ap not c.if-not-is_tree.false)
+    tree_given c.args.store.now c.requires.sizes_read c.requires.laid_out _ c.is_tidy.ensures (ap not c.if-not-is_tidy.false) _ c.is_tree.ensures (ap not c.if-not-is_tree.false)
 
 pub returns-then-not-entries_sound : goal.returns-then-not-entries_sound
 returns-then-not-entries_sound c =
-    entries_off c.args.store.now c.requires.store_value c.requires.store_value_2 _ c.is_tidy.ensures (ap not c.if-not-is_tidy.false) _ c.is_tree.ensures (ap not c.if-not-is_tree.false)
+    entries_off c.args.store.now c.requires.sizes_read c.requires.laid_out _ c.is_tidy.ensures (ap not c.if-not-is_tidy.false) _ c.is_tree.ensures (ap not c.if-not-is_tree.false)
     _ c.entries_sound.ensures (ap not c.if-not-entries_sound.true)
 
 pub boards_sound-requires : goal.boards_sound-requires
 boards_sound-requires c =
-    entries_given c.args.store.now c.requires.store_value c.requires.store_value_2 _ c.is_tidy.ensures (ap not c.if-not-is_tidy.false) _ c.is_tree.ensures (ap not c.if-not-is_tree.false)
+    entries_given c.args.store.now c.requires.sizes_read c.requires.laid_out _ c.is_tidy.ensures (ap not c.if-not-is_tidy.false) _ c.is_tree.ensures (ap not c.if-not-is_tree.false)
     _ c.entries_sound.ensures (ap not c.if-not-entries_sound.false)
 
 pub returns : goal.returns
 returns c =
-    boards_last c.args.store.now c.requires.store_value c.requires.store_value_2 _ c.is_tidy.ensures (ap not c.if-not-is_tidy.false) _ c.is_tree.ensures (ap not c.if-not-is_tree.false)
+    boards_last c.args.store.now c.requires.sizes_read c.requires.laid_out _ c.is_tidy.ensures (ap not c.if-not-is_tidy.false) _ c.is_tree.ensures (ap not c.if-not-is_tree.false)
     _ c.entries_sound.ensures (ap not c.if-not-entries_sound.false) _ c.boards_sound.ensures

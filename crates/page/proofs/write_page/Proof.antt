@@ -46,4 +46,4 @@ write_page_spec =
     (λ c. search rules)
     loop-again
     (λ c. search rules)
-    (λ c. search (rules, length_mapped, all_written)))
+    (λ c. search (rules, all_written)))

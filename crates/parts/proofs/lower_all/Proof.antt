@@ -4,7 +4,6 @@ use mathlib.Core.Path.{◌≡◌}
 use lib.ListN.{length}
 use borrow.Author.Rules.{rules}
 use Rattle.page.specs.Struct.{contents}
-use Rattle.page.specs.Laws.{length_mapped}
 use Rattle.parts.proofs.Memo.{Lowering, lowering_all, lowering_lent, lowering_on, lowering_end}
 use Rattle.parts.proofs.lower_all.Statement.{statement}
 use Rattle.parts.proofs.lower_all.Tie as tie
@@ -24,9 +23,9 @@ lower_all_spec =
     (λ c. search rules)
     (λ c. (search rules, search rules, search (rules, lowering_all)))
     (λ c κs. search rules)
-    (λ c κs. search (rules, lowering_lent, length_mapped))
+    (λ c κs. search (rules, lowering_lent))
     (λ c. search rules)
     (λ c. search rules)
-    (λ c. (search rules, search rules, search (rules, lowering_on, length_mapped)))
+    (λ c. (search rules, search rules, search (rules, lowering_on)))
     (λ c. search rules)
-    (λ c. search (rules, lowering_end, length_mapped)))
+    (λ c. search (rules, lowering_end)))

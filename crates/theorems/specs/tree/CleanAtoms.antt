@@ -8,7 +8,7 @@ use Rattle.rules.specs.declared.Stamp.{Stamp}
 use Rattle.rules.specs.declared.Entry.{Entry}
 use Rattle.rules.specs.Store.{Page}
 use Rattle.rules.specs.laws.All.{All, head_of, all_map, all_append, all_front, all_back, flat_append}
-use Rattle.rules.specs.laws.Order.{◌~◌, ◌then◌, back, same, both, rear, swapped, all_reordered, flat_reordered, flat_both}
+use Rattle.rules.specs.laws.Order.{◌~◌, ◌then◌, back, same, rear, swapped, all_reordered, flat_reordered, flat_both}
 use Rattle.theorems.specs.Leaves.{MarkedEntry, with_mark}
 use Rattle.theorems.specs.tree.Items.{Atom, page, entry, entries}
 use Rattle.theorems.specs.tree.PutAtoms.{pages_only}

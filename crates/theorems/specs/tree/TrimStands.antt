@@ -17,7 +17,7 @@ use Rattle.rules.specs.laws.All.{All, none, more, head_of, tail_of, all_map, all
 use Rattle.rules.specs.laws.Lists.{Distinct}
 use Rattle.rules.specs.laws.Order.{◌~◌, back, all_reordered, distinct_reordered, flat_reordered, flat_both, picked, placed}
 use Rattle.theorems.specs.tree.Numbers.{Off, head_off, distinct_tail, distinct_front, distinct_back, distinct_cross}
-use Rattle.theorems.specs.tree.Items.{Item, no_mark, with_items, no_node, Atom, page, number_of, atoms, atoms_of, numbers}
+use Rattle.theorems.specs.tree.Items.{Item, no_mark, with_items, no_node, Atom, number_of, atoms, atoms_of, numbers}
 use Rattle.theorems.specs.tree.Pages.{page_other, page_same, used_inside}
 use Rattle.theorems.specs.tree.Stands.{place, page_of, same_places, Stands, all_numbers, stands_frame, kind_used, spared}
 use Rattle.theorems.specs.tree.PutStands.{Beside}

@@ -33,4 +33,4 @@ nine_spec =
     (λ c. search rules)
     (λ c. search rules)
     (λ c. (search rules, search rules, search (rules, length_mapped), search (rules, nine_turn, length_mapped)))
-    (λ c. search (rules, nine_all, length_mapped)))
+    (λ c. search (rules, nine_all)))

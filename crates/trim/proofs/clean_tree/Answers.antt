@@ -17,13 +17,13 @@ pub overflow_sub-depth : goal.overflow_sub-depth
 overflow_sub-depth c = search (rules, header_room, depth_some, depth_few, trimmed_ready, trimmed_levels, trimmed_waits, back_count, back_some, all_clean, count-read, leaf_there)
 
 pub trim_below-waiting-requires : goal.trim_below-waiting-requires
-trim_below-waiting-requires c = search (rules, header_room, depth_some, depth_few, trimmed_ready, trimmed_levels, trimmed_waits, back_count, back_some, all_clean, count-read, leaf_there)
+trim_below-waiting-requires c = search (rules, depth_few, count-read, leaf_there)
 
-pub put_back-requires-clause-store_bound : goal.put_back-requires-clause-store_bound
-put_back-requires-clause-store_bound c = search (rules, header_room, depth_some, depth_few, trimmed_ready, trimmed_levels, trimmed_waits, back_count, back_some, all_clean, count-read, leaf_there)
+pub put_back-requires-clause-waits : goal.put_back-requires-clause-waits
+put_back-requires-clause-waits c = search (rules, trimmed_levels, trimmed_waits)
 
 pub give_way-requires : goal.give_way-requires
-give_way-requires c = search (rules, header_room, depth_some, depth_few, trimmed_ready, trimmed_levels, trimmed_waits, back_count, back_some, all_clean, count-read, leaf_there)
+give_way-requires c = search (rules, depth_some, back_count, back_some)
 
 pub returns : goal.returns
-returns c = search (rules, header_room, depth_some, depth_few, trimmed_ready, trimmed_levels, trimmed_waits, back_count, back_some, all_clean, count-read, leaf_there)
+returns c = search (rules, all_clean)
