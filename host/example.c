@@ -1,5 +1,5 @@
 /* The index from C: a terminal's fence, three reports, and who is inside. `gcc -Ihost/include host/example.c
- * target/staticlib/libshunebokai.a && ./a.out` at the repository's root. */
+ * crates/shunebokai/out/libshunebokai.a && ./a.out` at the repository's root. */
 #include "shunebokai.h"
 
 #include <stdio.h>

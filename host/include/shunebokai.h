@@ -1,7 +1,7 @@
 /* The calls of the verified train index, for C and C++ on x86-64 Linux.
  *
- *     rt staticlib shunebokai            proves the library and writes target/staticlib/libshunebokai.a
- *     gcc -Ihost/include yours.c target/staticlib/libshunebokai.a
+ *     (cd crates/shunebokai && rt lib)   proves the library and writes crates/shunebokai/out/libshunebokai.a
+ *     gcc -Ihost/include yours.c crates/shunebokai/out/libshunebokai.a
  *
  * The index lives in one array of 32-bit words that the caller lends for each call; the library keeps nothing between
  * calls and allocates nothing, so different stores may be used by different threads. An array is passed as its first

@@ -33,7 +33,7 @@ fn compiler(name: &str, standard: &str) -> Command {
 
 #[test]
 fn the_example_in_c_prints_the_boards_rows() {
-    let dir = option_env!("SHUNEBOKAI_LIB_DIR").map_or(here("../target/staticlib"), PathBuf::from);
+    let dir = option_env!("SHUNEBOKAI_LIB_DIR").map_or(here("../crates/shunebokai/out"), PathBuf::from);
     let program = Path::new(env!("CARGO_TARGET_TMPDIR")).join("example");
     let compiled = compiler("gcc", "-std=c11")
         .arg(here("example.c"))

@@ -20,12 +20,10 @@ const RUNS: [(Profile, u64, usize); 9] = [
 
 const HEAD: &str = "\
 -- Long runs that the second program made and answered (`second --runs` prints this file): the definitions give the same answers and words.
-use mathlib.Core.Path.{_≡_, refl}
-use mathlib.Core.Bool.{true}
-use mathlib.Core.List.{List, [], _∷_}
-use Rattle·rules·specs.specs.Lists.{every}
-use Rattle·rules·specs.specs.Calls.{rules-open}
-use Rattle·rules·specs.specs.Text.{Run, _gives_, agrees, text-open}
+use Rattle.std.specs.Prelude.{◌≡◌, refl, true, List, [], ◌∷◌}
+use Rattle.rules.specs.Lists.{every}
+use Rattle.rules.specs.Calls.{rules_open}
+use Rattle.rules.specs.Text.{Run, ◌gives◌, agrees, text_open}
 ";
 
 /// The whole file.
@@ -33,7 +31,7 @@ pub fn runs() -> String {
     let mut file = String::from(HEAD);
     let mut names = Vec::new();
     for (profile, seed, steps) in RUNS {
-        let name = format!("{}-{seed}", profile.name());
+        let name = format!("{}_{seed}", profile.name());
         file.push_str(&run(&name, &make(profile, seed, steps)));
         names.push(name);
     }
@@ -41,8 +39,8 @@ pub fn runs() -> String {
     let unfolding = names.join(" ");
     file + &format!(
         "\nunfoldable pub runs : List Run\nruns = {list}\n\n\
-         pub runs-agree : every agrees runs ≡ true\n\
-         unfolding runs {unfolding} rules-open text-open\nruns-agree = refl\n"
+         pub runs_agree : every agrees runs ≡ true\n\
+         unfolding runs {unfolding} rules_open text_open\nruns_agree = refl\n"
     )
 }
 
