@@ -13,7 +13,7 @@ ghost use Rattle.board.specs.Rows as spec;
 use rules::{Box, Row, Train, Window};
 
 // Where a train's row stands, or, where it has none, where it would come in ascending order.
-#[derive(Drop)]
+#[derive(Clone, Copy)]
 pub enum RowAt {
     Listed(usize),
     Unlisted(usize),

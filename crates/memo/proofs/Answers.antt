@@ -1,4 +1,4 @@
--- What follows from the look_up's answer, for a stamp noted and a count lowered.
+-- What follows from the look-up's answer, for a stamp noted and a count lowered.
 use Prim.Native.Nat.{ℕ, ◌+◌, ◌-◌, ◌<◌, ◌≤◌}
 use native.Mathlib.Omega.{arith}
 use native.Mathlib.Numerals.{add-one}
@@ -72,7 +72,7 @@ module _ (m : List ℕ) (t : Train) (r : LookUp) (e : r ≡ look_up t (slots_in 
     unfolding lowered lowered_by
     lowered-left h w m' g = rw (so_found, ne_eqb (old - 1) 0 (omega arith)) (g ∙ memo_put m w place _ so_used)
 
--- ---- what the look_up's answer says of an entry
+-- ---- what the look-up's answer says of an entry
 module _ (m : List ℕ) (e : Entry) (r : LookUp) (answer : r ≡ look_up (train_of e) (slots_in m)) where
   pub absent_latest : r ≡ Absent → true ≡ is_latest (slots_in m) e
   unfolding is_latest latest_by

@@ -1,4 +1,4 @@
--- Where a train's slot is, or would be, and what the look_up finds there.
+-- Where a train's slot is, or would be, and what the look-up finds there.
 use Prim.Native.Nat.{ℕ, zero, suc, ◌<◌, ◌≤◌, ◌+◌, ◌-◌, ◌/◌}
 use native.Mathlib.Omega.{arith}
 use mathlib.Core.Path.{◌≡◌, refl, ap, sym, ◌∙◌}
@@ -46,7 +46,7 @@ place_after t (o_more {m = m} {ms = ms} a o) (suc i) u h =
     (λ k. absurd (omega (arith, all_at a i no_slot (used_inside ms i u))))
     (λ k. omega (arith, place_after t o i u h))
 
--- ---- what the look_up finds there
+-- ---- what the look-up finds there
 pub found_there : (t : Train) (ms : List Slot) → (t.0 ≡ 0 → ⊥) → (get_or ms (place_for t ms) no_slot).train.0 ≡ t.0
     → look_up t ms ≡ Found (place_for t ms) (get_or ms (place_for t ms) no_slot).latest (get_or ms (place_for t ms) no_slot).old
 unfolding look_up one_further

@@ -81,7 +81,7 @@ module _ (b : List ℕ) (o : Bool) (opens : o ≡ is_open (board_of b)) where
       pub listed_untold : not l ≡ false → (w : List ℕ) → w ≡ board_words (untold t (board_of b)) → Told t (board_of b) (untold t (board_of b)) w 1
       listed_untold e w new = record { wrote = new; counted = rw (opened n, sym before ∙ not-false l e) }
 
--- ---- several boards, some_one of which
+-- ---- several boards, some one of which
 -- what is left from board i on decides
 abbrev pub Looking : (Board → Bool) → List ℕ → ℕ → Type 0
 Looking f v i = some_one f (drop i (store_of v).boards) ≡ some_one f (store_of v).boards

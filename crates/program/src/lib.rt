@@ -131,7 +131,7 @@ fn begin(
 }
 
 // What performing an input answers: how many bytes it prints, and how many words of the lent space are its store's; 0 where none was started.
-#[derive(Drop)]
+#[derive(Clone, Copy)]
 pub struct Performed {
     pub bytes: usize,
     pub words: usize,

@@ -9,7 +9,7 @@ use Rattle.rules.specs.declared.LookUp.TheVariants.{Absent, Found}
 use Rattle.rules.specs.Lists.{keep, without}
 use Rattle.rules.specs.Store.{train_of}
 
--- ---- the look_up: no slot, or the slot's place, stamp and old count
+-- ---- the look-up: no slot, or the slot's place, stamp and old count
 unfoldable pub one_further : LookUp → LookUp
 one_further Absent = Absent
 one_further (Found place latest old) = Found (suc place) latest old

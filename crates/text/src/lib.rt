@@ -12,7 +12,7 @@ ghost use Rattle.text.specs.Promised.{Until, LineRead, StepsRead};
 // ---- reading
 
 // What reading a field answers: a decimal's value, or that the field is none.
-#[derive(Drop)]
+#[derive(Clone, Copy)]
 pub enum Number {
     Value(u32),
     Bad,
@@ -89,7 +89,7 @@ pub fn numbers(line: &[u8], out: &mut [u32]) -> bool
 }
 
 // What reading the lines of steps answers: how many were read, and whether a bad line ended them.
-#[derive(Drop)]
+#[derive(Clone, Copy)]
 pub struct StepCount {
     pub count: usize,
     pub bad: bool,

@@ -97,7 +97,7 @@ visited {P} n (p ∷ xs) h a = go (eqb n p.0) refl (λ k. visited n xs k (tail_o
 
 pub member_visited : (p : PageNo) (xs : List PageNo) → Mem p xs → 1 ≤ times p.0 xs
 unfolding count
-member_visited p [] x' = elim x' [ ]
+member_visited p [] m = elim m [ ]
 member_visited p (q ∷ xs) (Memᴰ.head e) = omega (arith, ap one_if (eq-eqb p.0 q.0 (ap (λ (x : PageNo). x.0) e)))
 member_visited p (q ∷ xs) (Memᴰ.tail m) = omega (arith, member_visited p xs m)
 

@@ -143,7 +143,7 @@ abbrev pub Mem : {A : Type 0} → A → List A → Type 0
 Mem x xs = Memᴰ x xs
 
 pub all_member : {A : Type 0} {P : A → Type 0} {x : A} {xs : List A} → All P xs → Mem x xs → P x
-all_member {A = A} {P = P} none x4 = elim x4 [ ]
+all_member none m = elim m [ ]
 all_member (more h a) (Memᴰ.head e) = rw e h
 all_member (more h a) (Memᴰ.tail m) = all_member a m
 

@@ -1,4 +1,4 @@
--- Laws of the memo: slots in ascending train, what a look_up finds in them, and what noting, lowering and inspecting change.
+-- Laws of the memo: slots in ascending train, what a look-up finds in them, and what noting changes.
 use Rattle.std.specs.Prelude.{ℕ, zero, suc, ◌<◌, ◌≤◌, ◌-◌, ◌≡◌, ◌&&◌, eqb, ltb, leb, set, length, get_or, replicate, take}
 use Rattle.std.proofs.Common.{arith, ◌∙◌, take-suc, length-set}
 use Rattle.std.proofs.Math.Path.{refl, ap, sym}
@@ -69,13 +69,13 @@ unused_past none i h = omega arith
 unused_past (more a b) zero h = absurd (omega arith)
 unused_past (more a b) (suc i) h = omega (arith, unused_past b i h)
 
--- ---- the look_up
+-- ---- the look-up
 pub absent_before : (t : Train) {ms : List Slot} → All (λ m. t.0 < m.train.0) ms → look_up t ms ≡ Absent
 unfolding look_up one_further
 absent_before t none = refl
 absent_before t (more {x = m} h a) = rw (ne_eqb m.train.0 t.0 (omega arith), absent_before t a)
 
--- the look_up among a slot and later ones
+-- the look-up among a slot and later ones
 pub look_up-case : (P : LookUp → Type 0) (t : Train) (m : Slot) (ms : List Slot)
     → (m.train.0 ≡ t.0 → P (Found 0 m.latest m.old)) → ((m.train.0 ≡ t.0 → ⊥) → P (one_further (look_up t ms))) → P (look_up t (m ∷ ms))
 unfolding look_up
@@ -172,12 +172,12 @@ not_above-known s = known_same (λ l. not_above l s) λ p q latest old. refl
 
 -- a slot is what is noted of its train
 pub known_member : {m : Slot} {ms : List Slot} → InOrder ms → Mem m ms → known m.train ms ≡ Found 0 m.latest m.old
-known_member {m = m} o_none x3 = elim x3 [ ]
+known_member o_none k = elim k [ ]
 known_member (o_more {m = n} {ms = ms} a o) (Memᴰ.head e) = rw e (known_here n.train n ms refl)
 known_member {m = m} (o_more {m = n} {ms = ms} a o) (Memᴰ.tail k) =
     known_on m.train n ms (omega (arith, all_member a k)) ∙ known_member o k
 
--- ---- noted, lowered and inspected, slot by slot
+-- ---- noted, slot by slot
 -- the old count in an answer, where none counts as 0
 abbrev pub old_in : LookUp → ℕ
 old_in Absent = 0

@@ -103,7 +103,7 @@ module _ (n : ℕ) (low : 1 ≤ n) (high : n ≤ 2) where
       → PutAt n k x T ps rest (rooted t.no (suc l) (put_below d ps t.no (place k x)))
   put_deep k d l e = rw e (λ x t ps rest W. put_one k d x t ps rest W)
 
-  -- an item of level k, put at the level above it into a tree F; where R = length rest pages wait with 𝓛 entries, and 3P entries are the most
+  -- an item of level k, put at the level above it into a tree F; where R = length rest pages wait with W entries, and 3P entries are the most
   pub put_at_laid : (k : ℕ) (x : Item k) (T : Top) (F : Tree) (rest : List ℕ) (W : ℕ) → k ≤ T.depth → F.root ≡ T.tree.no → F.levels ≡ suc T.depth
       → Full k x → Stands F.pages k x → Rooted n T → Laid F.pages T (numbers (atoms k no_mark x) ++ rest)
       → weight (atoms k no_mark x) + weight (atoms_top T) + W ≤ 3 * length F.pages → 3 * length rest ≤ W
