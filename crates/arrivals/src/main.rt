@@ -3,7 +3,8 @@
 
 ghost use Rattle.std.specs.Prelude.{◌≡◌, length};
 
-use libc::{STDIN_FILENO, STDOUT_FILENO};
+use std::io;
+use std::io::Write;
 
 // A byte more than is looked at: an input that fills it is too long.
 fn input_space() -> [u8; 65537]
@@ -19,10 +20,10 @@ fn output_space() -> [u8; 209446]
     [0; 209446]
 }
 
-fn main() {
+fn main(rt: HostRuntime) -> io::Result<()> {
     let mut input = input_space();
-    let n = io::read_full(STDIN_FILENO, &mut input);
+    let n = streams::read_full(&mut rt.stdin(), &mut input)?;
     let mut output = output_space();
     let m = program::perform(&input[..n], &mut output);
-    io::write_all(STDOUT_FILENO, &output[..m]);
+    io::writer(&rt).write_all(&output[..m])
 }
