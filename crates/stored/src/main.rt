@@ -1,7 +1,11 @@
 // Performs stored inputs, the files 00, 01 and on: of each it writes its name, what it prints and the words of the store that it leaves.
 #![tactic(auto)]
 
-ghost use Rattle.std.specs.Prelude.{◌≡◌, ◌+◌, ◌/◌, ◌%◌, ◌≤◌, [], ◌∷◌, length};
+ghost use Rattle.std.specs.Prelude.{◌≡◌, ◌+◌, ◌/◌, ◌%◌, ◌≤◌, [], ◌∷◌, ◌++◌, length, OnOk};
+ghost use Rattle.std.specs.Io.KnownBytes.{Appends};
+ghost use Rattle.text.specs.Printing.{line};
+ghost use Rattle.text.specs.Program.{printed};
+ghost use Rattle.program.specs.Left.{left};
 
 use std::io::{ErrorKind, Write};
 use std::rt::Files;
@@ -29,7 +33,9 @@ fn output_space() -> [u8; 209446]
 }
 
 // Writes what an input prints, then the words of its store in a line.
-fn perform<W: Write>(input: &[u8], writer: &mut W) -> io::Result<()> {
+fn perform<W: Write>(input: &[u8], writer: &mut W) -> io::Result<()>
+    ensures { OnOk result (Appends (W.contents writer.old) (W.contents writer.new) (printed input.now ++ line (left input.now))) }
+{
     let mut space = store_space();
     let mut out = output_space();
     let done = program::perform_in(input, &mut space, &mut out);
