@@ -1,11 +1,12 @@
 // Judges the stores that standard input lists, the words of one in a line, and writes the number of each in a line.
 #![tactic(auto)]
 
-ghost use Rattle.std.specs.Prelude.{◌≡◌, ◌+◌, ◌*◌, ◌≤◌, length, take};
+ghost use Rattle.std.specs.Prelude.{◌≡◌, ◌+◌, ◌*◌, ◌≤◌, length, take, drop, Some, IfSome, IfOk, OnOk};
+ghost use Rattle.std.specs.Io.KnownBytes.{Appends};
 ghost use Rattle.judged.specs.Text.{word_of, words_of, number_of, answers, Put};
 
 use std::io;
-use std::io::Write;
+use std::io::{Read, Write};
 
 // How many bytes are read, which is more than the list has; a line has no more words than bytes.
 const MOST: usize = 131072;
@@ -99,10 +100,28 @@ fn judge_lines(input: &[u8], out: &mut [u8]) -> usize
     k
 }
 
-fn main(rt: HostRuntime) -> io::Result<()> {
+// Reads a list of stores, as much of it as is looked at, and lays out the number of each.
+fn judge_listed<R: Read>(reader: &mut R, out: &mut [u8]) -> io::Result<usize>
+    requires { 262144 ≤ length out.old }
+    ensures put { IfOk result (λ n. IfSome (R.remaining reader.old) (λ bytes. Put (answers (take 131072 bytes)) out.old n out.new)) }
+    ensures rest { IfOk result (λ n. IfSome (R.remaining reader.old) (λ bytes. R.remaining reader.new ≡ Some (drop 131072 bytes))) }
+    ensures bound { IfOk result (λ n. n ≤ length out.new) }
+{
     let mut input = input_room();
-    let n = streams::read_full(&mut rt.stdin(), &mut input)?;
+    let n = streams::read_full(reader, &mut input)?;
+    Ok(judge_lines(&input[..n], out))
+}
+
+// Reads a list of stores and writes a line with the number of each.
+fn judge_stream<R: Read, W: Write>(reader: &mut R, writer: &mut W) -> io::Result<()>
+    ensures writes { OnOk result (IfSome (R.remaining reader.old) (λ bytes. Appends (W.contents writer.old) (W.contents writer.new) (answers (take 131072 bytes)))) }
+    ensures rest { OnOk result (IfSome (R.remaining reader.old) (λ bytes. R.remaining reader.new ≡ Some (drop 131072 bytes))) }
+{
     let mut out = output_room();
-    let k = judge_lines(&input[..n], &mut out);
-    io::writer(&rt).write_all(&out[..k])
+    let n = judge_listed(reader, &mut out)?;
+    writer.write_all(&out[..n])
+}
+
+fn main(rt: HostRuntime) -> io::Result<()> {
+    judge_stream(&mut rt.stdin(), &mut io::writer(&rt))
 }
