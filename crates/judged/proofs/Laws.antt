@@ -1,19 +1,15 @@
 -- What the loops over bytes keep. Assumes nothing.
-use Prim.Native.Nat.{ℕ, suc, ◌+◌, ◌-◌, ◌*◌, ◌%◌, ◌≤◌, ◌<◌}
-use native.Mathlib.Omega.{arith}
-use native.Mathlib.Nat.{zero-add, sub-zero}
-use native.Mathlib.Numerals.{add-one}
-use mathlib.Core.Path.{◌≡◌, refl, sym, ◌∙◌, ap}
-use mathlib.Core.Bool.{Bool, true, false, not}
-use mathlib.Core.List.{List, [], ◌∷◌, flat_map}
-use lib.Dec.{eqb, ltb}
-use lib.ListN.{length, get_or, set, length-set, take, drop, length-drop, drop_of_length-le}
-use lib.Seq.{drop-cons, length-take-le, drop-drop, take_all, take_at, sets, length-sets, sets-eq}
+use Rattle.std.specs.Prelude.{ℕ, suc, ◌+◌, ◌-◌, ◌*◌, ◌%◌, ◌≤◌, ◌<◌, ◌≡◌, refl, Bool, true, false, not, eqb, ltb, List, [], ◌∷◌, length, get_or, set, take, drop}
+use Rattle.std.proofs.Common.{arith, zero-add, add-one, sym, ◌∙◌, ap, length-drop, drop_of_length-le, drop-cons, length-take-le, drop-drop, take_at}
+use Rattle.std.proofs.Math.Nat.{sub-zero}
+use mathlib.Core.List.{flat_map}
+use lib.Seq.{sets, length-sets, sets-eq}
+use Rattle.rules.specs.Lists.{first}
 use Rattle.rules.specs.Numbers.{first_met}
 use Rattle.rules.specs.Sound.{sound_words}
 use Rattle.rules.specs.Calls.{sizes_read, laid_out, store_tests}
 use Rattle.rules.specs.laws.Tests.{either}
-use Rattle.bytes.specs.Bytes.{slice, index_of, index_after}
+use Rattle.text.specs.Promised.{Until}
 use Rattle.judged.specs.Text.{before_first, parts, word_from, word_of, words_of, number_of, answer, answers, Put}
 
 -- ---- a field: the digits from number i on go on with what is read
@@ -31,17 +27,21 @@ module _ (field : List ℕ) (v i : ℕ) (left : word_from v (drop i field) ≡ w
   word_end h = let e : drop i field ≡ [] = drop_of_length-le field {i = i} h in rw e at left
 
 -- ---- parts: the first ends before the first separator, and behind that the others follow
+-- how far away the byte c stands first
+abbrev far : ℕ → List ℕ → ℕ
+far c s = first (λ x. eqb x c) s
+
 abbrev FirstPart : ℕ → List ℕ → Type 0
-FirstPart c s = parts c s ≡ take (index_of c s) s ∷ parts c (drop (suc (index_of c s)) s)
+FirstPart c s = parts c s ≡ take (far c s) s ∷ parts c (drop (suc (far c s)) s)
 
 -- a byte more before a part
 part_longer : (c b : ℕ) (s : List ℕ) → eqb b c ≡ false → (0 < length s → FirstPart c s) → FirstPart c (b ∷ s)
-unfolding parts before_first index_of index_after
+unfolding parts before_first first
 part_longer c b [] e later = rw e
 part_longer c b (x ∷ s) e later = rw (e, later (omega arith))
 
 pub first_part : (c : ℕ) (s : List ℕ) → 0 < length s → FirstPart c s
-unfolding parts index_of index_after
+unfolding parts first
 first_part c [] h = absurd (omega arith)
 first_part c (b ∷ s) h = go (eqb b c) refl (first_part c s)
   where
@@ -50,14 +50,12 @@ first_part c (b ∷ s) h = go (eqb b c) refl (first_part c s)
     go false e later = part_longer c b s e later
 
 -- the same from place i on, as the search for the separator says where it stands
-module _ (c : ℕ) (s : List ℕ) (i e : ℕ) (inside : i < length s) (there : e ≡ i + index_of c (slice i (length s) s)) where
+module _ (c : ℕ) (s : List ℕ) (i e : ℕ) (inside : i < length s) (there : Until s i c e) where
   pub next_part : parts c (drop i s) ≡ take (e - i) (drop i s) ∷ parts c (drop (e + 1) s)
-  unfolding slice
   next_part =
-      let k = index_of c (drop i s) in
-      let at : e ≡ i + k = there ∙ ap (λ l. i + index_of c (drop i l)) (take_all (length s) s (omega arith)) in
-      let long : e - i ≡ k = omega arith in
-      let behind : i + suc k ≡ e + 1 = omega arith in
+      let k = far c (drop i s) in
+      let long : e - i ≡ k = omega (arith, there.there) in
+      let behind : i + suc k ≡ e + 1 = omega (arith, there.there) in
       rw (long, ← behind, ← drop-drop (suc k) i s) (first_part c (drop i s) (simp length-drop (omega arith)))
 
 -- ---- what is left to write: these from here on give what all of them give from the start
@@ -93,13 +91,10 @@ pub words-start : (line before : List ℕ) → Left (words_of line) before (word
 words-start line before = all_left (words_of line) before
 
 module _ (line before : List ℕ) (i n : ℕ) (now : List ℕ) (l : Left (words_of line) before (words_of (drop i line)) n now) where
-  pub words_turn : (e : ℕ) → i < length line → e ≡ i + index_of 32 (slice i (length line) line) → (w : ℕ)
+  pub words_turn : (e : ℕ) → i < length line → Until line i 32 e → (w : ℕ)
       → w ≡ word_of (take (e - i) (drop i line)) → Left (words_of line) before (words_of (drop (e + 1) line)) (n + 1) (set now n w)
   unfolding words_of
   words_turn e h there w read = left_one l w (words_of (drop (e + 1) line)) (rw (next_part 32 line i e h there, read))
-
-  pub words-room : i < length line → n ≤ i → length line ≤ 131072 → 131072 ≤ length before → n < length now
-  words-room h j k m = omega (arith, left-length l)
 
   pub words_end : length line ≤ i → n ≤ length line → length line ≤ 131072 → 131072 ≤ length before → Put (words_of line) before n now
   unfolding words_of parts
@@ -127,14 +122,7 @@ pub answers-start : (input before : List ℕ) → Left (answers input) before (a
 answers-start input before = all_left (answers input) before
 
 module _ (input before : List ℕ) (i k : ℕ) (now : List ℕ) (l : Left (answers input) before (answers (drop i input)) k now) where
-  module _ (inside : i < length input) (few : k ≤ 2 * i) (room : 2 * length input ≤ length before) where
-    pub first-room : k < length now
-    first-room = omega (arith, left-length l)
-
-    pub second_room : (x : ℕ) → k + 1 < length (set now k x)
-    second_room x = simp length-set (omega (arith, left-length l))
-
-  pub answers_turn : (e : ℕ) → i < length input → e ≡ i + index_of 10 (slice i (length input) input) → (r d : ℕ)
+  pub answers_turn : (e : ℕ) → i < length input → Until input i 10 e → (r d : ℕ)
       → r ≡ number_of (take (e - i) (drop i input)) → d ≡ 48 + r
       → Left (answers input) before (answers (drop (e + 1) input)) (k + 2) (set (set now k d) (k + 1) 10)
   unfolding answers answer flat_map

@@ -1,9 +1,12 @@
 // Judges the stores that standard input lists, the words of one in a line, and writes the number of each in a line.
 #![tactic(auto)]
 
-ghost use Rattle.std.specs.Prelude.{◌≡◌, ◌+◌, ◌*◌, ◌≤◌, length};
-ghost use Rattle.io.specs.Counts.{IsPrefixLen};
+ghost use Rattle.std.specs.Prelude.{◌≡◌, ◌+◌, ◌*◌, ◌≤◌, length, take, drop, Some, IfSome, IfOk, OnOk};
+ghost use Rattle.std.specs.Io.KnownBytes.{Appends};
 ghost use Rattle.judged.specs.Text.{word_of, words_of, number_of, answers, Put};
+
+use std::io;
+use std::io::{Read, Write};
 
 // How many bytes are read, which is more than the list has; a line has no more words than bytes.
 const MOST: usize = 131072;
@@ -54,7 +57,7 @@ fn read_words(line: &[u8], store: &mut [u32]) -> usize
     let mut n = 0;
     let mut i = 0;
     while i < line.len() {
-        let e = bytes::scan::find(line, i, line.len(), b' ');
+        let e = text::until(line, i, b' ');
         store[n] = read_word(&line[i..e]);
         n += 1;
         i = e + 1;
@@ -83,12 +86,12 @@ fn digit(number: u32) -> u8
 fn judge_lines(input: &[u8], out: &mut [u8]) -> usize
     requires { (length input.now ≤ 131072) × (2 * length input.now ≤ length out.old) }
     ensures put { Put (answers input.now) out.old result out.new }
-    ensures prefix_len { IsPrefixLen result out.new }
+    ensures prefix_len { (result ≤ length out.new) × (result ≡ length (take result out.new)) }
 {
     let mut k = 0;
     let mut i = 0;
     while i < input.len() {
-        let e = bytes::scan::find(input, i, input.len(), b'\n');
+        let e = text::until(input, i, b'\n');
         out[k] = digit(judge_line(&input[i..e]));
         out[k + 1] = b'\n';
         k += 2;
@@ -97,10 +100,28 @@ fn judge_lines(input: &[u8], out: &mut [u8]) -> usize
     k
 }
 
-fn main() {
+// Reads a list of stores, as much of it as is looked at, and lays out the number of each.
+fn judge_listed<R: Read>(reader: &mut R, out: &mut [u8]) -> io::Result<usize>
+    requires { 262144 ≤ length out.old }
+    ensures put { IfOk result (λ n. IfSome (R.remaining reader.old) (λ bytes. Put (answers (take 131072 bytes)) out.old n out.new)) }
+    ensures rest { IfOk result (λ n. IfSome (R.remaining reader.old) (λ bytes. R.remaining reader.new ≡ Some (drop 131072 bytes))) }
+    ensures bound { IfOk result (λ n. n ≤ length out.new) }
+{
     let mut input = input_room();
-    let n = io::read_full(libc::STDIN_FILENO, &mut input);
+    let n = streams::read_full(reader, &mut input)?;
+    Ok(judge_lines(&input[..n], out))
+}
+
+// Reads a list of stores and writes a line with the number of each.
+fn judge_stream<R: Read, W: Write>(reader: &mut R, writer: &mut W) -> io::Result<()>
+    ensures writes { OnOk result (IfSome (R.remaining reader.old) (λ bytes. Appends (W.contents writer.old) (W.contents writer.new) (answers (take 131072 bytes)))) }
+    ensures rest { OnOk result (IfSome (R.remaining reader.old) (λ bytes. R.remaining reader.new ≡ Some (drop 131072 bytes))) }
+{
     let mut out = output_room();
-    let k = judge_lines(&input[..n], &mut out);
-    io::write_all(libc::STDOUT_FILENO, &out[..k]);
+    let n = judge_listed(reader, &mut out)?;
+    writer.write_all(&out[..n])
+}
+
+fn main(rt: HostRuntime) -> io::Result<()> {
+    judge_stream(&mut rt.stdin(), &mut io::writer(&rt))
 }

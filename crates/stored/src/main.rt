@@ -1,9 +1,15 @@
 // Performs stored inputs, the files 00, 01 and on: of each it writes its name, what it prints and the words of the store that it leaves.
 #![tactic(auto)]
 
-ghost use Rattle.std.specs.Prelude.{◌≡◌, ◌≤◌, length};
+ghost use Rattle.std.specs.Prelude.{◌≡◌, ◌+◌, ◌/◌, ◌%◌, ◌≤◌, [], ◌∷◌, ◌++◌, length, OnOk};
+ghost use Rattle.std.specs.Io.KnownBytes.{Appends};
+ghost use Rattle.text.specs.Printing.{line};
+ghost use Rattle.text.specs.Program.{printed};
+ghost use Rattle.program.specs.Left.{left};
 
-use libc::STDOUT_FILENO;
+use std::io::{ErrorKind, Write};
+use std::rt::Files;
+use std::{fs, io, str};
 
 // A byte more than is looked at: an input that fills it is too long.
 fn input_space() -> [u8; 65537]
@@ -27,46 +33,53 @@ fn output_space() -> [u8; 209446]
 }
 
 // Writes what an input prints, then the words of its store in a line.
-fn perform(input: &[u8]) {
+fn perform<W: Write>(input: &[u8], writer: &mut W) -> io::Result<()>
+    ensures { OnOk result (Appends (W.contents writer.old) (W.contents writer.new) (printed input.now ++ line (left input.now))) }
+{
     let mut space = store_space();
     let mut out = output_space();
     let done = program::perform_in(input, &mut space, &mut out);
     let bytes = done.bytes;
     let words = done.words;
-    io::write_all(STDOUT_FILENO, &out[..bytes]);
+    writer.write_all(&out[..bytes])?;
     let e = text::put_line(&space[..words], &mut out, 0);
-    io::write_all(STDOUT_FILENO, &out[..e]);
+    writer.write_all(&out[..e])
 }
 
-// The name of file i: two digits.
+// The name of file i: two digits, which are text, so that it is a path.
 fn name(i: u32) -> [u8; 2]
     requires { i ≤ 99 }
+    ensures { result ≡ (48 + i / 10) ∷ (48 + i % 10) ∷ [] }
 {
     [48 + (i / 10) as u8, 48 + (i % 10) as u8]
 }
 
 // Performs file i, and answers whether there is one.
-fn perform_file(i: u32) -> bool
+fn perform_file(rt: &(impl Files + Print), i: u32) -> io::Result<bool>
     requires { i ≤ 99 }
 {
     let name = name(i);
-    let fd = os::open_read(&name);
-    if fd < 0 {
-        return false;
-    }
-    io::write_all(STDOUT_FILENO, b"input ");
-    io::write_all(STDOUT_FILENO, &name);
-    io::write_all(STDOUT_FILENO, b"\n");
+    let path = str::from_utf8(&name).unwrap();
+    let mut file = match fs::open(rt, path) {
+        Ok(file) => file,
+        Err(e) if e.kind() == ErrorKind::NotFound => return Ok(false),
+        Err(e) => return Err(e),
+    };
+    let mut writer = io::writer(rt);
+    writer.write_all(b"input ")?;
+    writer.write_all(&name)?;
+    writer.write_all(b"\n")?;
     let mut input = input_space();
-    let n = io::read_full(fd, &mut input);
-    libc::close(fd);
-    perform(&input[..n]);
-    true
+    let n = streams::read_full(&mut file, &mut input)?;
+    perform(&input[..n], &mut writer)?;
+    Ok(true)
 }
 
-fn main() {
-    let mut i = 0;
-    while i < 100 && perform_file(i) {
-        i += 1;
+fn main(rt: HostRuntime) -> io::Result<()> {
+    for i in 0..100 {
+        if !perform_file(&rt, i)? {
+            break;
+        }
     }
+    Ok(())
 }
