@@ -148,8 +148,8 @@ fn in_space(
     out: &mut [u8],
 ) -> Performed
     requires { (length input.now ≤ 65536) × (15824 ≤ length space.old) × (209446 ≤ length out.old) }
-    ensures laid { Laid out.old 0 (spec.start_printed p k b (lines (drop from input.now))) out.new result.bytes }
-    ensures laid_2 { Laid space.old 0 (started_left p k b (lines (drop from input.now))) space.new result.words }
+    ensures output_laid { Laid out.old 0 (spec.start_printed p k b (lines (drop from input.now))) out.new result.bytes }
+    ensures store_laid { Laid space.old 0 (started_left p k b (lines (drop from input.now))) space.new result.words }
 {
     let words = store_length(p, k, b);
     let bytes = begin(p, k, b, input, from, &mut space[0..words], out);
@@ -159,8 +159,8 @@ fn in_space(
 // What the program prints for an input, laid out from the slice's start, and the store that the input leaves, at the front of a lent space. 209,446 bytes hold the longest: the start, 5,461 steps and 32 boards of 16 rows.
 pub fn perform_in(input: &[u8], space: &mut [u32], out: &mut [u8]) -> Performed
     requires { (15824 ≤ length space.old) × (209446 ≤ length out.old) }
-    ensures laid { Laid out.old 0 (spec.printed input.now) out.new result.bytes }
-    ensures laid_2 { Laid space.old 0 (left input.now) space.new result.words }
+    ensures output_laid { Laid out.old 0 (spec.printed input.now) out.new result.bytes }
+    ensures store_laid { Laid space.old 0 (left input.now) space.new result.words }
 {
     if 65_536 < input.len() {
         let bytes = text::put_too_long(out, 0);
