@@ -1,4 +1,4 @@
-/* The calls of the verified train index, for C and C++ on x86-64 Linux.
+/* The calls of the verified train index, for C and C++ on x86-64 Linux, processors from x86-64-v2 on.
  *
  *     (cd crates/shunebokai && rt lib)   proves the library and writes crates/shunebokai/out/libshunebokai.a
  *     gcc -Ihost/include yours.c crates/shunebokai/out/libshunebokai.a

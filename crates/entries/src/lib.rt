@@ -12,7 +12,7 @@ ghost use Rattle.entries.specs.Given.{Trusted};
 ghost use Rattle.entries.specs.Apart.{apart, Flagged, Says};
 ghost use Rattle.entries.specs.Passes as spec;
 ghost use Rattle.entries.specs.State as state;
-ghost use Rattle.entries.specs.Apart as apart;
+ghost use Rattle.entries.specs.Apart as spec_apart;
 
 use page::Page;
 use rules::{Entry, LookUp, PageNo, Slot, Stamp, Train};
@@ -250,7 +250,7 @@ fn note_pages(
 
 // The flag of a key, one of 16,384: a product's middle bits, so that neither neighbours nor multiples often share one.
 fn flag_of(key: u64) -> usize
-    ensures { (result ≡ apart.flag_of key) × (result < 16384) }
+    ensures { (result ≡ spec_apart.flag_of key) × (result < 16384) }
 {
     (key % 4294967296 * 3266489917 / 262144 % 16384) as usize
 }

@@ -20,7 +20,7 @@ use Rattle.rules.specs.Numbers.{Refusal, first_met}
 use Rattle.rules.specs.Calls.{store_tests, query_number, queried_by, query_call, board_test, board_rows}
 use Rattle.rules.specs.laws.Numbers.{Numbered, unmet, met_first, none_met}
 use Rattle.query.specs.Keys.{row_of_key, Searchable, sound_searchable, searchable_placed, Found}
-use Rattle.query.proofs.Rows.{answer-written}
+use Rattle.query.specs.Rows.{answer-written}
 use Rattle.rules.specs.laws.Placed.{Placed, boards_count}
 use Rattle.parts.specs.BoardAt.{BoardAt}
 use Rattle.index.specs.declared.Answer.TheVariants.{Listed, Refused}

@@ -18,7 +18,7 @@ use Rattle.page.specs.declared.Page.{Page}
 use Rattle.page.specs.Struct.{contents, laid_page}
 use Rattle.page.specs.Laws.{laid_contents, laid_place}
 use Rattle.query.specs.Keys.{key_of, hit, leaf_keys, keys_at, keys_below, keys_under, Searchable, Written}
-use Rattle.query.proofs.Descent.{page_inside}
+use Rattle.query.specs.Descent.{page_inside}
 use Rattle.query.proofs.Lent.{places_fit}
 
 pub record Left (all keys : List ℕ) (n : ℕ) (rest keys' : List ℕ) (m : ℕ) : Type 0 where

@@ -18,7 +18,7 @@ use Rattle.page.specs.Laws.{struct_there}
 use Rattle.memo.specs.Slots.{slots_in, HoldsMemo}
 use Rattle.memo.specs.Laws.{so_latest}
 use Rattle.query.specs.Keys.{hit, Searchable, searchable_placed}
-use Rattle.query.proofs.Descent.{page_holds}
+use Rattle.query.specs.Descent.{page_holds}
 
 module _ (v : List ℕ) (h : Searchable v) where
   placed : Placed v

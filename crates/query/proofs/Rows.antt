@@ -1,59 +1,27 @@
 -- The keys that a descent from the root finds, sorted, name the rows of the query in turn; there are at most 576 of them.
-use Rattle.std.specs.Prelude.{ℕ, ◌*◌, ◌≤◌, ◌≡◌, Bool, true, false, take, drop}
-use Rattle.std.proofs.Common.{arith, le_refl, sym, ◌∙◌}
+use Rattle.std.specs.Prelude.{ℕ, ◌≤◌, ◌≡◌}
+use Rattle.std.proofs.Common.{arith, sym, ◌∙◌}
 use Rattle.std.proofs.Math.Path.{ap}
 use mathlib.Core.List.Memᴰ
-use mathlib.Core.List.{List, [], ◌∷◌, ◌++◌, map, map-map, flat_map}
+use mathlib.Core.List.{List, map, map-map}
 use Rattle.std.proofs.Math.ListN.{length, length-map}
 use Rattle.rules.specs.declared.Window.{Window}
 use Rattle.rules.specs.declared.Entry.{Entry}
-use Rattle.rules.specs.declared.Row.{Row}
-use Rattle.rules.specs.Lists.{keep, put_if}
+use Rattle.rules.specs.Lists.{keep}
 use Rattle.rules.specs.Boxes.{meets}
-use Rattle.rules.specs.Store.{Store, store_of, row_words}
+use Rattle.rules.specs.Store.{Store, store_of}
 use Rattle.rules.specs.Memo.{is_latest}
 use Rattle.rules.specs.Live.{row_for, held, rows_of, rows_in}
-use Rattle.rules.specs.laws.All.{All, more, all_map, all_mapped, all_kept, all_zip, all_unmapped, Mem, all_member, all_members}
+use Rattle.rules.specs.laws.All.{all_map, all_mapped, Mem, all_member, all_members}
 use Rattle.rules.specs.laws.Kept.{keep_both}
-use Rattle.rules.specs.laws.Lists.{Distinct, d_more}
 use Rattle.rules.specs.laws.Order.{◌~◌, ◌then◌, same, back, all_reordered, mem_reordered, map_reordered, distinct_reordered, length_reordered}
-use Rattle.rules.specs.laws.Rows.{RowsAscend, r_none, r_more, Apart, same_members, rows_of_ascend, row_has_entry, entry_has_row}
+use Rattle.rules.specs.laws.Rows.{RowsAscend, Apart, same_members, rows_of_ascend, row_has_entry, entry_has_row}
 use Rattle.sort.specs.Sorted.{sorted}
-use Rattle.sort.specs.Laws.{InOrder, o_none, o_more, sorted_moves, sorted_in_order}
-use Rattle.query.specs.Keys.{row_of_key, hit, keys_in, Searchable, Found}
-use Rattle.query.proofs.Descent.{ByTrain, Searched, rows_under, trains_under}
-
--- ---- keeping leaves no more, and no two alike where there were none
-kept_most : {A : Type 0} (f : A → Bool) (xs : List A) → length (keep f xs) ≤ length xs
-unfolding keep
-kept_most f [] = le_refl 0
-kept_most f (x ∷ xs) = go (f x) (kept_most f xs)
-  where
-    go : (b : Bool) → length (keep f xs) ≤ length xs → length (put_if b x (keep f xs)) ≤ length (x ∷ xs)
-    go true h = omega arith
-    go false h = omega arith
-
-kept_apart : (f : Entry → Bool) (es : List Entry) → Apart es → Apart (keep f es)
-unfolding keep
-kept_apart f [] d = d
-kept_apart f (e ∷ es) (d_more h d) = go (f e) (kept_apart f es d)
-  where
-    go : (b : Bool) → Apart (keep f es) → Apart (put_if b e (keep f es))
-    go true k = d_more (all_mapped _ (all_kept f (all_map (all_unmapped _ es h) λ x n t. n))) k
-    go false k = k
-
-mem_map : {A B : Type 0} (f : A → B) {x : A} {xs : List A} → Mem x xs → Mem (f x) (map f xs)
-mem_map f (Memᴰ.head e) = Memᴰ.head (ap f e)
-mem_map f (Memᴰ.tail m) = Memᴰ.tail (mem_map f m)
-
--- ---- keys in order, whose first parts are the trains of their rows, no two alike, name ascending rows
-rows_ascend : (f : ℕ → Row) {ks : List ℕ} → InOrder ks → All (ByTrain f) ks → Distinct (map (λ k. (f k).train.0) ks)
-    → RowsAscend (map f ks)
-rows_ascend f o_none a d = r_none
-rows_ascend f (o_more {x = k} {xs = ks} least o) (more h a) (d_more n d) =
-    r_more {r = f k}
-    (all_mapped f (all_zip {P = λ j. (f k).train.0 ≤ (f j).train.0} (all_zip least a λ j l e. omega arith) (all_unmapped _ ks n) λ j l m. omega arith))
-    (rows_ascend f o a d)
+use Rattle.sort.specs.Laws.{sorted_moves, sorted_in_order}
+use Rattle.query.specs.Keys.{row_of_key, hit, keys_in, Searchable}
+use Rattle.query.specs.Descent.{Searched}
+use Rattle.query.specs.Rows.{kept_most, kept_apart, mem_map, rows_ascend}
+use Rattle.query.proofs.Descent.{rows_under, trains_under}
 
 -- ---- the rows of a window
 module _ (v : List ℕ) (h : Searchable v) (w : Window) where
@@ -107,9 +75,3 @@ module _ (v : List ℕ) (h : Searchable v) (w : Window) where
   pub rows_many : length (keys_in s w) ≡ length (rows_in s w)
   rows_many =
       sym (length_reordered (sorted_moves (keys_in s w))) ∙ sym (length-map (sorted (keys_in s w)) (row_of_key s.pages)) ∙ ap length rows_found
-
--- the rows of the keys found, written in front of a slice, are the query's answer in it
-pub answer-written : {s : Store} {w : Window} {keys work : List ℕ} {n : ℕ} {keys' work' : List ℕ} (out out' : List ℕ) → Found s w keys work n keys' work'
-    → out' ≡ flat_map row_words (map (row_of_key s.pages) (take n keys')) ++ drop (5 * n) out
-    → out' ≡ flat_map row_words (rows_in s w) ++ drop (5 * length (rows_in s w)) out
-answer-written out out' f e = e ∙ rw (f.rows, f.many)

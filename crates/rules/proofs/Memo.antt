@@ -1,53 +1,21 @@
 -- Laws of lowering and inspecting: what they change in the memo's slots, and what is noted of a train afterwards.
-use Rattle.std.specs.Prelude.{ℕ, suc, ◌<◌, ◌≤◌, ◌-◌, ◌+◌, ◌≡◌, Bool, not, eqb, ltb, set, length}
+use Rattle.std.specs.Prelude.{ℕ, suc, ◌<◌, ◌≤◌, ◌-◌, ◌+◌, ◌≡◌, Bool, eqb, length}
 use Rattle.std.proofs.Common.{arith, suc-add, zero-add, ◌∙◌, subst}
 use Rattle.std.proofs.Math.Path.{refl, ap, sym}
-use Rattle.std.proofs.Math.Bool.{true, false, cond}
+use Rattle.std.proofs.Math.Bool.{true, false}
 use mathlib.Core.List.{List, [], ◌∷◌}
-use borrow.Author.Tests.{ne_eqb, eqb-true, eqb-false, ltb-true, ltb-false, lt-ltb, le-ltb, eq-eqb}
+use borrow.Author.Tests.{ne_eqb, eqb-true, eqb-false, lt-ltb, le-ltb, eq-eqb}
 use Rattle.rules.specs.declared.Train.{Train}
 use Rattle.rules.specs.declared.Stamp.{Stamp}
 use Rattle.rules.specs.declared.Entry.{Entry}
 use Rattle.rules.specs.declared.Slot.{Slot}
-use Rattle.rules.specs.declared.LookUp.{LookUp}
-use Rattle.rules.specs.declared.LookUp.TheVariants.{Absent, Found}
-use Rattle.rules.specs.Lists.{count, one_if, without, keep, put_if}
+use Rattle.rules.specs.declared.LookUp.TheVariants.{Found}
+use Rattle.rules.specs.Lists.{count, one_if, keep}
 use Rattle.rules.specs.Store.{train_of}
-use Rattle.rules.specs.Memo.{look_up, one_further, lowered_by, lowered, inspected, lowered_all}
+use Rattle.rules.specs.Memo.{look_up, lowered_by, lowered, inspected, lowered_all}
 use Rattle.rules.specs.Views.{MemoInRange}
-use Rattle.rules.specs.laws.Tests.{either}
 use Rattle.rules.specs.laws.All.{All, none, more, all_map}
-use Rattle.rules.specs.laws.Memo.{InOrder, o_none, o_more, in_order, ascends, slot, known, look_up-case, known-case, known_none, known_here, known_on, known_either, others, one_less, unless_below, times_less}
-
-module _ (P : List Slot → Type 0) (t : Train) where
-  -- at the train's slot, freed or with a count one less, or further on
-  lowered-further : (m : Slot) (ms : List Slot) (l : LookUp) → P (m ∷ lowered_by l t ms) → P (lowered_by (one_further l) t (m ∷ ms))
-  unfolding lowered_by one_further without
-  lowered-further m ms Absent h = h
-  lowered-further m ms (Found place latest old) h = go (eqb (old - 1) 0) h
-    where
-      go : (b : Bool) → P (m ∷ cond b (without ms place) (set ms place (slot t latest (old - 1))))
-          → P (cond b (without (m ∷ ms) (suc place)) (set (m ∷ ms) (suc place) (slot t latest (old - 1))))
-      go true k = k
-      go false k = k
-
-  pub lowered-case : (m : Slot) (ms : List Slot) → (m.train.0 ≡ t.0 → m.old ≤ 1 → P ms)
-      → (m.train.0 ≡ t.0 → 1 < m.old → P (slot t m.latest (m.old - 1) ∷ ms)) → ((m.train.0 ≡ t.0 → ⊥) → P (m ∷ lowered t ms)) → P (lowered t (m ∷ ms))
-  unfolding lowered lowered_by without
-  lowered-case m ms freed less on =
-      look_up-case (λ l. P (lowered_by l t (m ∷ ms))) t m ms
-      (λ e. either P (eqb (m.old - 1) 0) (λ z. freed e (omega (arith, eqb-true (m.old - 1) 0 z))) (λ z. less e (omega (arith, eqb-false (m.old - 1) 0 z))))
-      (λ d. lowered-further m ms (look_up t ms) (on d))
-
--- stays or freed, and the later ones
-pub inspected-case : (P : List Slot → Type 0) (mark : Stamp) (m : Slot) (ms : List Slot)
-    → (mark.0 ≤ m.latest.0 → P (m ∷ inspected mark ms)) → (m.latest.0 < mark.0 → P (inspected mark ms)) → P (inspected mark (m ∷ ms))
-unfolding inspected keep
-inspected-case P mark m ms stays freed = go (ltb m.latest.0 mark.0) refl
-  where
-    go : (b : Bool) → ltb m.latest.0 mark.0 ≡ b → P (put_if (not b) m (inspected mark ms))
-    go true e = freed (ltb-true _ _ e)
-    go false e = stays (ltb-false _ _ e)
+use Rattle.rules.specs.laws.Memo.{InOrder, o_none, o_more, in_order, ascends, slot, known, lowered-case, inspected-case, known-case, known_none, known_here, known_on, known_either, others, one_less, unless_below, times_less}
 
 -- ---- what holds of every slot afterwards, by what held of every slot before
 module _ {P Q : Slot → Type 0} (t : Train) (other : (m : Slot) → (m.train.0 ≡ t.0 → ⊥) → P m → Q m) where

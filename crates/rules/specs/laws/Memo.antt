@@ -1,8 +1,8 @@
--- Laws of the memo: slots in ascending train, what a look-up finds in them, and what noting changes.
-use Rattle.std.specs.Prelude.{ℕ, zero, suc, ◌<◌, ◌≤◌, ◌-◌, ◌≡◌, ◌&&◌, eqb, ltb, leb, set, length, get_or, replicate, take}
+-- Laws of the memo: slots in ascending train, what a look-up finds in them, and what noting, lowering and inspecting change.
+use Rattle.std.specs.Prelude.{ℕ, zero, suc, ◌<◌, ◌≤◌, ◌-◌, ◌≡◌, ◌&&◌, Bool, not, eqb, ltb, leb, set, length, get_or, replicate, take}
 use Rattle.std.proofs.Common.{arith, ◌∙◌, take-suc, length-set}
 use Rattle.std.proofs.Math.Path.{refl, ap, sym}
-use Rattle.std.proofs.Math.Bool.{false, cond}
+use Rattle.std.proofs.Math.Bool.{true, false, cond}
 use mathlib.Core.List.Memᴰ
 use mathlib.Core.List.{List, [], ◌∷◌, ◌++◌, map, append-nil}
 use Rattle.std.proofs.lemmas.List.{set-append_left}
@@ -13,9 +13,9 @@ use Rattle.rules.specs.declared.Entry.{Entry}
 use Rattle.rules.specs.declared.Slot.{Slot}
 use Rattle.rules.specs.declared.LookUp.{LookUp}
 use Rattle.rules.specs.declared.LookUp.TheVariants.{Absent, Found}
-use Rattle.rules.specs.Lists.{keep}
+use Rattle.rules.specs.Lists.{without, keep, put_if}
 use Rattle.rules.specs.Store.{Store, limit, train_of}
-use Rattle.rules.specs.Memo.{look_up, one_further, is_absent, latest_by, is_latest, slot_inserted, noted_by, noted, inspected}
+use Rattle.rules.specs.Memo.{look_up, one_further, is_absent, latest_by, is_latest, slot_inserted, noted_by, noted, lowered_by, lowered, inspected}
 use Rattle.rules.specs.Sound.{not_above}
 use Rattle.rules.specs.Views.{HeaderInRange, MemoInRange, Rule6}
 use Rattle.rules.specs.laws.Tests.{either}
@@ -76,7 +76,7 @@ absent_before t none = refl
 absent_before t (more {x = m} h a) = rw (ne_eqb m.train.0 t.0 (omega arith), absent_before t a)
 
 -- the look-up among a slot and later ones
-pub look_up-case : (P : LookUp → Type 0) (t : Train) (m : Slot) (ms : List Slot)
+look_up-case : (P : LookUp → Type 0) (t : Train) (m : Slot) (ms : List Slot)
     → (m.train.0 ≡ t.0 → P (Found 0 m.latest m.old)) → ((m.train.0 ≡ t.0 → ⊥) → P (one_further (look_up t ms))) → P (look_up t (m ∷ ms))
 unfolding look_up
 look_up-case P t m ms here on = either P (eqb m.train.0 t.0) (λ e. here (eqb-true _ _ e)) (λ e. on (eqb-false _ _ e))
@@ -177,7 +177,7 @@ known_member (o_more {m = n} {ms = ms} a o) (Memᴰ.head e) = rw e (known_here n
 known_member {m = m} (o_more {m = n} {ms = ms} a o) (Memᴰ.tail k) =
     known_on m.train n ms (omega (arith, all_member a k)) ∙ known_member o k
 
--- ---- noted, slot by slot
+-- ---- noted, lowered and inspected, slot by slot
 -- the old count in an answer, where none counts as 0
 abbrev pub old_in : LookUp → ℕ
 old_in Absent = 0
@@ -199,6 +199,35 @@ module _ (P : List Slot → Type 0) (t : Train) where
   unfolding noted noted_by
   noted-case s m ms (o_more a o) here before on =
       look_up-case (λ l. P (noted_by l t s (m ∷ ms))) t m ms here (λ d. noted-further s m ms (look_up t ms) a d (look_up-says t ms) before on)
+
+  -- at the train's slot, freed or with a count one less, or further on
+  lowered-further : (m : Slot) (ms : List Slot) (l : LookUp) → P (m ∷ lowered_by l t ms) → P (lowered_by (one_further l) t (m ∷ ms))
+  unfolding lowered_by one_further without
+  lowered-further m ms Absent h = h
+  lowered-further m ms (Found place latest old) h = go (eqb (old - 1) 0) h
+    where
+      go : (b : Bool) → P (m ∷ cond b (without ms place) (set ms place (slot t latest (old - 1))))
+          → P (cond b (without (m ∷ ms) (suc place)) (set (m ∷ ms) (suc place) (slot t latest (old - 1))))
+      go true k = k
+      go false k = k
+
+  pub lowered-case : (m : Slot) (ms : List Slot) → (m.train.0 ≡ t.0 → m.old ≤ 1 → P ms)
+      → (m.train.0 ≡ t.0 → 1 < m.old → P (slot t m.latest (m.old - 1) ∷ ms)) → ((m.train.0 ≡ t.0 → ⊥) → P (m ∷ lowered t ms)) → P (lowered t (m ∷ ms))
+  unfolding lowered lowered_by without
+  lowered-case m ms freed less on =
+      look_up-case (λ l. P (lowered_by l t (m ∷ ms))) t m ms
+      (λ e. either P (eqb (m.old - 1) 0) (λ z. freed e (omega (arith, eqb-true (m.old - 1) 0 z))) (λ z. less e (omega (arith, eqb-false (m.old - 1) 0 z))))
+      (λ d. lowered-further m ms (look_up t ms) (on d))
+
+-- stays or freed, and the later ones
+pub inspected-case : (P : List Slot → Type 0) (mark : Stamp) (m : Slot) (ms : List Slot)
+    → (mark.0 ≤ m.latest.0 → P (m ∷ inspected mark ms)) → (m.latest.0 < mark.0 → P (inspected mark ms)) → P (inspected mark (m ∷ ms))
+unfolding inspected keep
+inspected-case P mark m ms stays freed = go (ltb m.latest.0 mark.0) refl
+  where
+    go : (b : Bool) → ltb m.latest.0 mark.0 ≡ b → P (put_if (not b) m (inspected mark ms))
+    go true e = freed (ltb-true _ _ e)
+    go false e = stays (ltb-false _ _ e)
 
 -- ---- what holds of every slot afterwards, by what held of every slot before
 module _ {P Q : Slot → Type 0} (t : Train) (other : (m : Slot) → (m.train.0 ≡ t.0 → ⊥) → P m → Q m) where
