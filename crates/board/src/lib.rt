@@ -84,6 +84,7 @@ pub fn place_of(b: &[u32], t: Train) -> RowAt
 }
 
 // Whether the train has a row; where rows ascend, that shows at its place.
+#[tactic(auto, using(crate::proofs::Upkeep::listed_true, crate::proofs::Upkeep::unlisted_false))]
 pub fn lists(b: &[u32], t: Train) -> bool
     requires { spec.BoardWords b.now × RowsAscend (board_of b.now).rows }
     ensures { result ≡ rules.lists t (board_of b.now) }
@@ -165,6 +166,7 @@ fn remove_at(b: &mut [u32], i: usize)
 }
 
 // The row at its ascending place, in place of a row of the same train.
+#[tactic(auto, using(crate::proofs::Upkeep::listed_here, crate::proofs::Upkeep::unlisted_here, crate::proofs::Upkeep::unlisted_room, crate::proofs::Upkeep::listed_inserted, crate::proofs::Upkeep::unlisted_inserted))]
 pub fn insert(b: &mut [u32], r: Row)
     requires { spec.BoardWords b.old × (length (row_inserted r (board_of b.old).rows) ≤ row_limit) }
     ensures { b.new ≡ board_words (rules.with_rows (row_inserted r (board_of b.old).rows) (board_of b.old)) }
@@ -176,6 +178,7 @@ pub fn insert(b: &mut [u32], r: Row)
 }
 
 // Without the train's row; rows ascend, so there is at most one.
+#[tactic(auto, using(crate::proofs::Upkeep::listed_here, crate::proofs::Upkeep::listed_removed, crate::proofs::Upkeep::unlisted_removed))]
 pub fn remove(b: &mut [u32], t: Train)
     requires { spec.BoardWords b.old × RowsAscend (board_of b.old).rows }
     ensures { b.new ≡ board_words (rules.with_rows (row_removed t (board_of b.old).rows) (board_of b.old)) }
@@ -215,6 +218,7 @@ pub fn open(b: &mut [u32], w: Window)
 // ---- upkeep
 
 // After a report: on an open board the train's row is there, with the new box, exactly where that box meets the window.
+#[tactic(auto, using(crate::proofs::Upkeep::met_fits, crate::proofs::Upkeep::met_told, crate::proofs::Upkeep::missed_told))]
 pub fn tell(b: &mut [u32], r: Row)
     requires { spec.BoardWords b.old × RowsAscend (board_of b.old).rows × (length (rules.told r (board_of b.old)).rows ≤ row_limit) }
     ensures { b.new ≡ board_words (rules.told r (board_of b.old)) }
@@ -240,6 +244,7 @@ pub fn untell(b: &mut [u32], t: Train)
 }
 
 // A report would need a seventeenth row: sixteen are there, none is the train's, and its box meets the open board's window.
+#[tactic(auto, using(crate::proofs::Upkeep::few_rows, crate::proofs::Upkeep::closed_full, crate::proofs::Upkeep::missed_full, crate::proofs::Upkeep::listed_full, crate::proofs::Upkeep::unlisted_full))]
 pub fn is_overfull(b: &[u32], r: Row) -> bool
     requires { spec.BoardWords b.now }
     ensures { result ≡ rules.overfull r (board_of b.now) }

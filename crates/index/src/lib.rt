@@ -49,6 +49,7 @@ fn fill(store: &mut [u32], first: [u32; 19])
 }
 
 // A fresh store of p pages, k memo slots and b boards, whatever the slice held; 1, then 2 for its length.
+#[tactic(auto, using(crate::proofs::Laws::start_sizes, crate::proofs::Laws::start_given, crate::proofs::Laws::long_enough))]
 pub fn start(p: u32, k: u32, b: u32, store: &mut [u32]) -> u32
     ensures { calls.start p k b store.old ≡ record { number = result; store = store.new } }
 {

@@ -66,6 +66,7 @@ fn read_words(line: &[u8], store: &mut [u32]) -> usize
 }
 
 // The number of the store in a line: exactly its words are lent.
+#[tactic(auto, using(crate::proofs::Laws::number_read))]
 fn judge_line(line: &[u8]) -> u32
     requires { length line.now ≤ 131072 }
     ensures { result ≡ number_of line.now }

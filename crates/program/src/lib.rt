@@ -32,6 +32,7 @@ fn answer_space() -> [u32; 10922]
 }
 
 // How long a store of these sizes is; 0 where they are out of range, which a start then refuses.
+#[tactic(auto, using(crate::proofs::Boards::no_room, crate::proofs::Boards::some_room, crate::proofs::Boards::room_most, crate::proofs::Boards::given_sizes))]
 fn store_length(p: u32, k: u32, b: u32) -> usize
     ensures { (result ≡ store_room p k b) × (result ≤ 15824) }
 {

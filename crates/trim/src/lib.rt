@@ -45,6 +45,7 @@ fn is_kept(store: &[u32], e: Entry, latest: bool) -> bool
 }
 
 // Page `at` with only its latest places, or only its obsolete ones, in their order.
+#[tactic(auto, using(tree::specs::Laws::header_room, crate::proofs::Keeping::pages_room, crate::proofs::Keeping::kept_start, crate::proofs::Keeping::memo_held, crate::proofs::Keeping::kept_more, crate::proofs::Keeping::kept_same))]
 fn kept_in(store: &[u32], at: PageNo, latest: bool) -> Page
     requires { Readable (length (store_of store.now).pages) store.now }
     ensures { result ≡ laid_page (page_kept latest (store_of store.now) at) }
@@ -247,6 +248,7 @@ fn put_back(store: &mut [u32], waiting: Orphans)
 }
 
 // Frees the root page; its child c is the root, one level lower.
+#[tactic(auto, using(tree::specs::Laws::header_room, tree::specs::Laws::room, crate::proofs::Whole::freed_header, crate::proofs::Whole::levels_some, crate::proofs::Whole::lowered_header))]
 fn lower_root(store: &mut [u32], p: usize, c: PageNo)
     requires { Ready p store.old × (1 ≤ (store_of store.old).levels) }
     ensures { Grown p store.old (root_lowered (tree_of (store_of store.old)) c) store.new }
