@@ -218,7 +218,6 @@ pub fn open(b: &mut [u32], w: Window)
 // ---- upkeep
 
 // After a report: on an open board the train's row is there, with the new box, exactly where that box meets the window.
-#[tactic(auto, using(crate::proofs::Upkeep::met_fits, crate::proofs::Upkeep::met_told, crate::proofs::Upkeep::missed_told))]
 pub fn tell(b: &mut [u32], r: Row)
     requires { spec.BoardWords b.old × RowsAscend (board_of b.old).rows × (length (rules.told r (board_of b.old)).rows ≤ row_limit) }
     ensures { b.new ≡ board_words (rules.told r (board_of b.old)) }

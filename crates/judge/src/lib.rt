@@ -103,7 +103,6 @@ fn is_sound(store: &[u32]) -> bool
 }
 
 // The first number of the table that a lent store meets; under 16 words its sizes can't be read, and it gives 2.
-#[tactic(auto, using(crate::proofs::Laws::too_short, crate::proofs::Laws::sizes_off, crate::proofs::Laws::sizes_true, crate::proofs::Laws::layout_off, crate::proofs::Laws::laid_true, crate::proofs::Laws::sound_off, crate::proofs::Laws::sound_on))]
 pub fn judge(store: &[u32]) -> u32
     ensures { result ≡ first_met (calls.store_tests store.now) }
 {
