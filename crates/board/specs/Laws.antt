@@ -75,7 +75,7 @@ removed_there t (r_more {r = q} {rs = qs} h a) =
 
 -- and there it shows whether the train is listed
 pub listed_there : (t : Train) (b : Board) → RowsAscend b.rows → lists t b ≡ is_listed (row_place t b.rows)
-unfolding lists some_one is_listed row_place further
+unfolding lists is_listed row_place further
 listed_there t b a = go a
   where
     past : (p : RowAt) → is_listed p ≡ is_listed (further p)

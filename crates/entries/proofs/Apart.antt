@@ -51,7 +51,7 @@ distinct_dropped (suc i) (d_more a d) = distinct_dropped i d
 -- ---- one by one
 module _ (keys : List ℕ) (from key i : ℕ) (so_far : apart key (drop from keys) ≡ apart key (drop i keys)) where
   next : i < length keys → apart key (drop from keys) ≡ (pair key (get_or keys i 0) && apart key (drop (i + 1) keys))
-  unfolding apart every pair
+  unfolding apart pair
   next h = so_far ∙ rw (drop-cons keys i 0 h, add-one i)
 
   pub differs_stop : i < length keys → get_or keys i 0 ≡ key → false ≡ apart key (drop from keys)
@@ -61,7 +61,7 @@ module _ (keys : List ℕ) (from key i : ℕ) (so_far : apart key (drop from key
   differs_on h n = next h ∙ rw (unequal_pair key (get_or keys i 0) n)
 
   pub differs_all : length keys ≤ i → true ≡ apart key (drop from keys)
-  unfolding apart every
+  unfolding apart
   differs_all h = sym (so_far ∙ rw (length-zero (drop i keys) (rw length-drop (omega arith))))
 
 -- ---- by flags

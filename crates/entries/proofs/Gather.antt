@@ -52,7 +52,6 @@ module _ (next mark : Stamp) (ms : List Slot) (e : Entry) (t : Tally) (l : LookU
 
 -- ---- what is gathered then
 every_snoc : {A : Type 0} (f : A → Bool) (xs : List A) (x : A) → every f (xs ++ (x ∷ [])) ≡ (every f xs && f x)
-unfolding every
 every_snoc f [] x = and-true (f x)
 every_snoc f (y ∷ xs) x = rw (every_snoc f xs x) (sym (and_assoc (f y) (every f xs) (f x)))
 

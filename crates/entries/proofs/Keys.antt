@@ -41,7 +41,7 @@ twice {x} {y} {r} o h =
     (λ e. absurd (head_of (first-apart (distinct-holds _ e)) (omega (arith, head_of (first_least o)))))
 
 short : (l : List ℕ) → length l ≤ 1 → true ≡ distinct l
-unfolding distinct every
+unfolding distinct
 short [] h = refl
 short (x ∷ []) h = refl
 short (x ∷ y ∷ l) h = absurd (omega arith)

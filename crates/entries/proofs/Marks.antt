@@ -21,7 +21,6 @@ module _ (w : List ℕ) (p : ℕ) (next : Stamp) (K : Known w p next) where
   pages_are = ap (λ n. pages_of n (drop 16 w)) (K.pages_many ∙ pages_length w (get_or w 5 0))
 
   pub no_marks : true ≡ every (mark_fine next) (drop p (store_of w).pages)
-  unfolding every
   no_marks = rw (drop_of_length-le (store_of w).pages {i = p} (omega (arith, K.pages_many)))
 
   pub page_here : (i : ℕ) (g : Page) → g ≡ struct_at w p (page_no i) → contents g ≡ get_or (store_of w).pages i free_page
@@ -31,7 +30,6 @@ module _ (w : List ℕ) (p : ℕ) (next : Stamp) (K : Known w p next) where
   pub mark_turn : (i : ℕ) (g : Page) (a b fine : Bool) → 0 < i → i ≤ p → fine ≡ every (mark_fine next) (drop i (store_of w).pages)
       → g ≡ struct_at w p (page_no (i - 1)) → a ≡ mark_fine next (contents g) → b ≡ (a && fine)
       → b ≡ every (mark_fine next) (drop (i - 1) (store_of w).pages)
-  unfolding every
   mark_turn i g a b fine h k e q x y =
       let c = page_here (i - 1) g q in
       rw (drop-before (store_of w).pages i free_page h (omega (arith, K.pages_many)), ← c, ← e, ← x) y

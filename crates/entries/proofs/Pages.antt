@@ -93,7 +93,7 @@ module _ (w m : List ℕ) (p : ℕ) (next : Stamp) (P : Passing w m p next) (i :
 
 -- ---- all pages
 pub none_gathered : (w stamps keys counts : List ℕ) → Fresh stamps keys counts → Before w 0 (record { sound = true; count = 0 }) stamps keys counts
-unfolding marked keep flat_map every counted count
+unfolding marked keep flat_map counted count
 none_gathered w stamps keys counts F =
     record {
       many = refl;

@@ -64,7 +64,7 @@ module _ {memo : List Slot} (o : InOrder memo) (fits : length memo ≤ counters)
 -- so the tests of slots with their counters are tests with these counts
 pub slots_counted : (next : Stamp) (f : Slot → ℕ) (cs : List ℕ) (ms : List Slot) → length ms ≤ length cs
     → ((i : ℕ) → i < length ms → get_or cs i 0 ≡ f (get_or ms i no_slot)) → slots_fine next cs ms ≡ every (λ m. slot_fine next (f m) m) ms
-unfolding slots_fine every
+unfolding slots_fine
 slots_counted next f cs [] h q = refl
 slots_counted next f [] (m ∷ ms) h q = absurd (not-suc-le-zero h)
 slots_counted next f (c ∷ cs) (m ∷ ms) h q =

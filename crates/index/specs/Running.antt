@@ -47,7 +47,6 @@ module _ (s : Store) (v : List ℕ) (n i : ℕ) (w : List ℕ) (h : ℕ) (answer
   -- after the last one
   module _ (done : n ≤ i) where
     none_left : steps_from n i v ≡ []
-    unfolding cut
     none_left = let e : n - i ≡ 0 = omega arith in rw e
 
     run_stored : w ≡ words (run s (map step_of (cut n 6 v))).store
@@ -62,7 +61,6 @@ module _ (s : Store) (v : List ℕ) (n i : ℕ) (w : List ℕ) (h : ℕ) (answer
   -- a step more
   module _ (inside : i < n) (a : ℕ) (at : a ≡ 6 * i) (x : Step) (read : x ≡ step_of (take (a + 6 - a) (drop a v))) where
     next_step : steps_from n i v ≡ x ∷ steps_from n (i + 1) v
-    unfolding cut
     next_step =
         let e : n - i ≡ suc (n - (i + 1)) = omega arith in
         let m : 6 * i + 6 ≡ 6 * (i + 1) = omega arith in

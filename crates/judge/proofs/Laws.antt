@@ -79,7 +79,6 @@ module _ (w : List ℕ) (long : 16 ≤ length w) (i : ℕ) (left : Zero (drop i 
   six = length-take-le 6 (drop 10 w) (simp length-drop (omega arith))
 
   pub rest_all : 6 ≤ i → true ≡ Zero (Rest w)
-  unfolding every
   rest_all h = let e : drop i (Rest w) ≡ [] = drop_of_length-le (Rest w) {i = i} (omega (arith, six)) in ap Zero (sym e) ∙ left
 
   module _ (inside : i < 6) where
@@ -89,11 +88,9 @@ module _ (w : List ℕ) (long : 16 ≤ length w) (i : ℕ) (left : Zero (drop i 
         ap (λ x. Zero (x ∷ drop (suc i) (Rest w))) (sym e) ∙ rw (drop-cons (Rest w) i 0 (omega (arith, six))) at left
 
     pub rest_off : (get_or w (10 + i) 0 ≡ 0 → ⊥) → false ≡ Zero (Rest w)
-    unfolding every
     rest_off h = rw (ne_eqb (get_or w (10 + i) 0) 0 h) at next
 
     pub rest_on : get_or w (10 + i) 0 ≡ 0 → Zero (drop (i + 1) (Rest w)) ≡ Zero (Rest w)
-    unfolding every
     rest_on h = rw add-one (rw (eq-eqb (get_or w (10 + i) 0) 0 h) at next)
 
 -- ---- all of them

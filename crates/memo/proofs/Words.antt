@@ -35,7 +35,7 @@ words-put (x ∷ xs) (suc i) s = simp (next_slot, towards_suc) (ap (λ r. x.trai
 
 -- ---- words read as slots
 cut-words : (k : ℕ) (m : List ℕ) → 3 * k ≡ length m → flat_map slot_words (map slot_of (cut k 3 m)) ≡ m
-unfolding cut slot_of slot_words flat_map
+unfolding slot_of slot_words flat_map
 cut-words zero [] e = refl
 cut-words zero (x ∷ m) e = absurd (omega arith)
 cut-words (suc k) [] e = absurd (omega arith)

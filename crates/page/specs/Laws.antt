@@ -46,7 +46,7 @@ struct_read g e =
 
 -- what is read from words has eight places, and the contents that the rules read from them
 pub struct_places : (w : List ℕ) → length (struct_of w).places ≡ 8
-unfolding struct_of cut
+unfolding struct_of
 struct_places w = refl
 
 take-map : {A B : Type 0} (f : A → B) (n : ℕ) (xs : List A) → take n (map f xs) ≡ map f (take n xs)

@@ -91,12 +91,11 @@ module _ (f : Board → Bool) (v : List ℕ) (i : ℕ) (left : Looking f v i) wh
   bs = (store_of v).boards
 
   pub looked_at_all : length bs ≤ i → false ≡ some_one f bs
-  unfolding some_one
   looked_at_all h = let e : drop i bs ≡ [] = drop_of_length-le bs {i = i} h in ap (some_one f) (sym e) ∙ left
 
   module _ (inside : i < length bs) (a : ℕ) (at : BoardAt v i a) (t : Bool) (test : t ≡ f (board_of (take (a + 86 - a) (drop a v)))) where
     turn : (t || some_one f (drop (suc i) bs)) ≡ some_one f bs
-    unfolding some_one board_at
+    unfolding board_at
     turn = rw (test, at.there) (rw (drop-cons bs i closed inside) at left)
 
     pub looked_here : t ≡ true → true ≡ some_one f bs

@@ -9,6 +9,8 @@ pub mod Cleaning
 pub mod Boards
 pub mod Sound
 pub mod Numbers
+pub mod Refused
+pub mod Kinds
 pub mod Steps
 pub mod Calls
 pub mod laws

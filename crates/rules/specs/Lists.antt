@@ -1,5 +1,7 @@
 -- Lists and tests: the few functions that the other definitions are written with.
-use Rattle.std.specs.Prelude.{ℕ, zero, suc, ◌+◌, ◌-◌, Bool, true, false, cond, ◌&&◌, ◌||◌, List, [], ◌∷◌, ◌++◌, eqb, ltb, length, take, drop, replicate}
+use Rattle.std.specs.Prelude.{ℕ, zero, suc, ◌+◌, ◌-◌, Bool, true, false, cond, ◌&&◌, ◌||◌, List, [], ◌∷◌, ◌++◌, eqb, ltb, length, replicate}
+use Rattle.std.specs.List.{list_all, list_any}
+use Rattle.std.specs.Simd.{first_chunks}
 
 -- ---- tests
 -- all the tests pass
@@ -26,13 +28,13 @@ unfoldable pub keep : {A : Type 0} → (A → Bool) → List A → List A
 keep f [] = []
 keep f (x ∷ xs) = put_if (f x) x (keep f xs)
 
-unfoldable pub every : {A : Type 0} → (A → Bool) → List A → Bool
-every f [] = true
-every f (x ∷ xs) = f x && every f xs
+-- std's own, case for case: every f [] = true, every f (x ∷ xs) = f x && every f xs
+abbrev pub every : {A : Type 0} → (A → Bool) → List A → Bool
+every f xs = list_all f xs
 
-unfoldable pub some_one : {A : Type 0} → (A → Bool) → List A → Bool
-some_one f [] = false
-some_one f (x ∷ xs) = f x || some_one f xs
+-- some_one f [] = false, some_one f (x ∷ xs) = f x || some_one f xs
+abbrev pub some_one : {A : Type 0} → (A → Bool) → List A → Bool
+some_one f xs = list_any f xs
 
 unfoldable pub count : {A : Type 0} → (A → Bool) → List A → ℕ
 count f [] = 0
@@ -70,9 +72,9 @@ same_words (x ∷ xs) [] = false
 same_words (x ∷ xs) (y ∷ ys) = eqb x y && same_words xs ys
 
 -- n parts of size words each, one after the other
-unfoldable pub cut : ℕ → ℕ → List ℕ → List (List ℕ)
-cut zero size ws = []
-cut (suc n) size ws = take size ws ∷ cut n size (drop size ws)
+-- cut zero size ws = [], cut (suc n) size ws = take size ws ∷ cut n size (drop size ws)
+abbrev pub cut : ℕ → ℕ → List ℕ → List (List ℕ)
+cut n size ws = first_chunks size n ws
 
 -- the words, and zeros up to the length n
 unfoldable pub padded : ℕ → List ℕ → List ℕ
@@ -80,5 +82,5 @@ padded n ws = ws ++ replicate (n - length ws) 0
 
 -- a proof that says `unfolding lists_open` sees through every definition of this file
 unfoldable pub lists_open : Unit {0}
-unfolding all_of one_of keep every some_one count first without from distinct ascending same_words cut padded
+unfolding all_of one_of keep count first without from distinct ascending same_words padded
 lists_open = tt

@@ -23,6 +23,9 @@ unfoldable pub step_of : List ℕ → Step
 step_of w =
     record { kind = get_or w 0 0; a = get_or w 1 0; x0 = get_or w 2 0; y0 = get_or w 3 0; x1 = get_or w 4 0; y1 = get_or w 5 0 }
 
+abbrev pub step_words : Step → List ℕ
+step_words x = x.kind ∷ x.a ∷ x.x0 ∷ x.y0 ∷ x.x1 ∷ x.y1 ∷ []
+
 abbrev pub its_train : Step → Train
 its_train x = train x.a
 

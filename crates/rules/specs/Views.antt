@@ -195,7 +195,7 @@ no_board : (b : Board) → b.isopen ≡ 0 → (every (λ n. eqb n 0) (window_wor
 unfolding window_words window_of
 no_board b o e =
     let w = ap window_of (zeros (window_words b.window) (and_left _ _ e)) in
-    let r = length-zero b.rows (eqb-true _ _ (and_right (every _ (window_words b.window)) _ e)) in
+    let r = length-zero b.rows (eqb-true _ _ (and_right (every (λ (n : ℕ). eqb n 0) (window_words b.window)) _ e)) in
     λ i. record { window = w i; isopen = o i; rows = r i }
 
 pub board_in_range-holds : (b : Board) → board_in_range b ≡ true → BoardInRange b
@@ -209,7 +209,7 @@ board_in_range-holds b e =
     }
 
 pub board_in_range_test : (b : Board) → BoardInRange b → board_in_range b ≡ true
-unfolding board_in_range every window_words
+unfolding board_in_range window_words
 board_in_range_test b h =
     each_all_of _
     (le-leb _ _ h.open_most

@@ -66,7 +66,7 @@ no_number field e = rw e
 
 module _ (field : List ℕ) (v i : ℕ) (h : Counting field v i) where
   pub whole_field : length field ≤ i → Value v ≡ number_in field
-  unfolding number_in every value_from
+  unfolding number_in value_from
   whole_field l =
       let d : drop i field ≡ [] = drop_of_length-le field l in
       let g : v ≡ value field = rw d at h.gives in
@@ -79,7 +79,6 @@ module _ (field : List ℕ) (v i : ℕ) (h : Counting field v i) where
     left = rw here (drop-cons field i 0 inside)
 
     decides_here : is_decimal field ≡ ((is_digit b && every is_digit (drop (suc i) field)) && leb (value field) limit)
-    unfolding every
     decides_here = rw left at h.decides
 
     pub too_low : b < 48 → Bad ≡ number_in field

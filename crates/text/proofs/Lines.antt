@@ -18,7 +18,7 @@ use Rattle.text.specs.Cutting.{more_fields, last_field}
 
 -- ---- a line of n decimals: its first field, and the others
 form_on : (n : ℕ) (f : List ℕ) (fs : List (List ℕ)) → all_decimals (suc n) (f ∷ fs) ≡ (is_decimal f && all_decimals n fs)
-unfolding all_decimals all_of every
+unfolding all_decimals all_of
 form_on n f fs = go (is_decimal f)
   where
     go : (t : Bool) → (eqb (suc (length fs)) (suc n) && ((t && every is_decimal fs) && true)) ≡ (t && (eqb (length fs) n && (every is_decimal fs && true)))
@@ -134,7 +134,7 @@ module _ (line out : List ℕ) (n : ℕ) (now : List ℕ) (at i : ℕ) (s : Scan
       told = sym given ∙ answer
 
       pub ends : e ≡ length line → LineRead line out (eqb (i + 1) n) (set now i v)
-      unfolding all_decimals all_of every words_before
+      unfolding all_decimals all_of words_before
       ends h =
           let p = last_field line at e u h in
           let m = n - (i + 1) in

@@ -18,11 +18,9 @@ parts_all : (n size : ℕ) (ws : List ℕ) → cut (n - 0) size (drop (size * 0)
 parts_all n size ws = let z : n - 0 ≡ n = omega arith in rw (z, mul-zero size)
 
 parts_none : (n i size : ℕ) (ws : List ℕ) → n ≤ i → cut (n - i) size ws ≡ []
-unfolding cut
 parts_none n i size ws h = let z : n - i ≡ 0 = omega arith in rw z
 
 parts_next : (n i size : ℕ) (ws : List ℕ) → i < n → cut (n - i) size (drop (size * i) ws) ≡ take size (drop (size * i) ws) ∷ cut (n - (i + 1)) size (drop (size * (i + 1)) ws)
-unfolding cut
 parts_next n i size ws h =
     let z : n - i ≡ suc (n - (i + 1)) = omega arith in
     let m : size * i + size ≡ size * (i + 1) = rw (add-one i) (omega (arith, mul-suc size i)) in

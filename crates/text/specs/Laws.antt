@@ -28,7 +28,7 @@ total-fields b (x ∷ xs) = go (eqb x b) (parts b ([] ∷ []) xs) (total-fields 
     go false (p ∷ ps) e = omega arith
 
 decimals_long : (fs : List (List ℕ)) → every is_decimal fs ≡ true → 2 * length fs ≤ total fs
-unfolding every is_decimal
+unfolding is_decimal
 decimals_long [] e = omega arith
 decimals_long (f ∷ fs) e =
     let later = decimals_long fs (and_right (is_decimal f) (every is_decimal fs) e) in
@@ -36,7 +36,7 @@ decimals_long (f ∷ fs) e =
     omega arith
 
 words_all : (fs : List (List ℕ)) → every is_decimal fs ≡ true → words_before fs ≡ map value fs
-unfolding every words_before
+unfolding words_before
 words_all [] e = refl
 words_all (f ∷ fs) e =
     let later = words_all fs (and_right (is_decimal f) (every is_decimal fs) e) in

@@ -38,7 +38,7 @@ same_front (suc n) (x ∷ a) b (y ∷ w) e h = rw (same_front n a b w (omega ari
 pub parts_same : {A : Type 0} (f : A → List ℕ) (g : List ℕ → A) (size : ℕ) → ((v : List ℕ) → length v ≡ size → length (f (g v)) ≡ size) → (n : ℕ) (rest ws : List ℕ)
     → size * n ≤ length ws
     → same_words (flat_map f (map g (cut n size ws)) ++ rest) ws ≡ (every (λ v. same_words (f (g v)) v) (cut n size ws) && same_words rest (drop (size * n) ws))
-unfolding flat_map cut every
+unfolding flat_map
 parts_same f g size long zero rest ws h = rw (mul-zero size)
 parts_same f g size long (suc n) rest ws h =
     let m = mul-suc size n in
@@ -52,7 +52,7 @@ zero_sides : (n : ℕ) → eqb 0 n ≡ eqb n 0
 zero_sides n = same_truth _ _ (λ h. eq-eqb n 0 (sym (eqb-true 0 n h))) (λ h. eq-eqb 0 n (sym (eqb-true n 0 h)))
 
 pub zeros_same : (n : ℕ) (ws : List ℕ) → length ws ≡ n → same_words (replicate n 0) ws ≡ every is_zero ws
-unfolding same_words every
+unfolding same_words
 zeros_same zero [] e = refl
 zeros_same zero (y ∷ ws) e = absurd (omega arith)
 zeros_same (suc n) [] e = absurd (omega arith)
@@ -62,7 +62,6 @@ zeros_same (suc n) (y ∷ ws) e =
 -- what always reads back to the same words
 pub always_same : {A : Type 0} (f : A → List ℕ) (g : List ℕ → A) (size : ℕ) → ((v : List ℕ) → length v ≡ size → same_words (f (g v)) v ≡ true) → (n : ℕ) (ws : List ℕ)
     → size * n ≤ length ws → every (λ v. same_words (f (g v)) v) (cut n size ws) ≡ true
-unfolding cut every
 always_same f g size h zero ws k = refl
 always_same f g size h (suc n) ws k =
     let m = mul-suc size n in
@@ -161,7 +160,7 @@ module _ (k last : ℕ) (m : List ℕ) (long : length m ≡ 3 * suc k) where
 
   -- the first slot is unused
   held_none : get_or m 0 0 ≡ 0 → every is_zero m ≡ slots_held (suc k) last m
-  unfolding slots_held cut used slot_of every ascending padded flat_map
+  unfolding slots_held used slot_of ascending padded flat_map
   held_none e = rw (first-train, e) (sym (rw and-true (zeros_same (3 * suc k - 0) m (omega arith))))
 
   -- it is used
@@ -184,7 +183,7 @@ module _ (k last : ℕ) (m : List ℕ) (long : length m ≡ 3 * suc k) where
   chained true true false false a h = refl
 
   held_one : (get_or m 0 0 ≡ 0 → ⊥) → (ltb last (get_or m 0 0) && slots_held k (get_or m 0 0) (drop 3 m)) ≡ slots_held (suc k) last m
-  unfolding slots_held cut used slot_of every ascending
+  unfolding slots_held used slot_of ascending
   held_one e =
       let t = get_or m 0 0 in
       let ms = slots_of k (drop 3 m) in
@@ -195,7 +194,7 @@ module _ (k last : ℕ) (m : List ℕ) (long : length m ≡ 3 * suc k) where
       ∙ rw (first-train, ne_eqb t 0 e, ← same, first-train)
 
 slots_so : (k last : ℕ) (m : List ℕ) → length m ≡ 3 * k → slots_tidy k last m ≡ slots_held k last m
-unfolding slots_tidy slots_held cut used flat_map padded same_words every ascending
+unfolding slots_tidy slots_held used flat_map padded same_words ascending
 slots_so zero last [] e = refl
 slots_so zero last (x ∷ m) e = absurd (omega arith)
 slots_so (suc k) last m e =
@@ -204,7 +203,6 @@ slots_so (suc k) last m e =
     (λ z. rw (slots_so k (get_or m 0 0) (drop 3 m) (simp length-drop (omega arith))) (held_one k last m e (eqb-false _ 0 z)))
 
 pub every_map : {A B : Type 0} (f : B → Bool) (g : A → B) (xs : List A) → every f (map g xs) ≡ every (λ x. f (g x)) xs
-unfolding every
 every_map f g [] = refl
 every_map f g (x ∷ xs) = rw (every_map f g xs)
 
@@ -218,7 +216,6 @@ memo_so k m e =
 -- ---- the whole
 -- parts read from words do not depend on what follows them
 cut_front : (n size : ℕ) (a b : List ℕ) → size * n ≤ length a → cut n size (a ++ b) ≡ cut n size a
-unfolding cut
 cut_front zero size a b h = refl
 cut_front (suc n) size a b h =
     let m = mul-suc size n in

@@ -21,7 +21,6 @@ regrouped true false false d = refl
 regrouped false b c d = refl
 
 pub every_both : {A : Type 0} (f g : A → Bool) (xs : List A) → every (λ x. f x && g x) xs ≡ (every f xs && every g xs)
-unfolding every
 every_both f g [] = refl
 every_both f g (x ∷ xs) = rw (every_both f g xs) (regrouped (f x) (g x) (every f xs) (every g xs))
 
@@ -31,20 +30,16 @@ Passed f xs i = every f xs ≡ every f (drop i xs)
 
 module _ {A : Type 0} (f : A → Bool) (xs : List A) (i : ℕ) (so_far : Passed f xs i) where
   pub passes : (d : A) → i < length xs → f (get_or xs i d) ≡ true → Passed f xs (i + 1)
-  unfolding every
   passes d h e = so_far ∙ rw (drop-cons xs i d h, e, add-one i)
 
   pub fails : (d : A) → i < length xs → f (get_or xs i d) ≡ false → false ≡ every f xs
-  unfolding every
   fails d h e = sym (so_far ∙ rw (drop-cons xs i d h, e))
 
   pub all_passed : length xs ≤ i → true ≡ every f xs
-  unfolding every
   all_passed h = sym (so_far ∙ rw (drop_of_length-le xs h))
 
 -- ---- the parts of one size that words are cut into
 pub cut_at : (n size : ℕ) (ws : List ℕ) (i : ℕ) → i < n → get_or (cut n size ws) i [] ≡ take size (drop (size * i) ws)
-unfolding cut
 cut_at zero size ws i h = absurd (not-suc-le-zero h)
 cut_at (suc n) size ws zero h = rw (mul-zero size)
 cut_at (suc n) size ws (suc i) h =

@@ -23,18 +23,18 @@ use Rattle.trim.specs.Trimming.{leads_to, way}
 -- ---- one of several pages
 module _ (q : PageNo) where
   among_append : (xs ys : List PageNo) → among q (xs ++ ys) ≡ (among q xs || among q ys)
-  unfolding among some_one
+  unfolding among
   among_append [] ys = refl
   among_append (x ∷ xs) ys = ap (λ b. eqb x.0 q.0 || b) (among_append xs ys) ∙ sym (or_assoc (eqb x.0 q.0) (among q xs) (among q ys))
 
   among_flat : (f : Entry → List PageNo) (es : List Entry) → among q (flat_map f es) ≡ some_one (λ e. among q (f e)) es
-  unfolding among some_one flat_map
+  unfolding among flat_map
   among_flat f [] = refl
   among_flat f (e ∷ es) = among_append (f e) (flat_map f es) ∙ ap (λ b. among q (f e) || b) (among_flat f es)
 
 -- a test that some element passes, by the place of the first that does
 some_first : {A : Type 0} (f : A → Bool) (xs : List A) → ltb (first f xs) (length xs) ≡ some_one f xs
-unfolding some_one first
+unfolding first
 some_first f [] = refl
 some_first f (x ∷ xs) = go (f x) (some_first f xs)
   where
@@ -45,7 +45,7 @@ some_first f (x ∷ xs) = go (f x) (some_first f xs)
 -- ---- a page at a level
 module _ (p : ℕ) (w : List ℕ) (level : ℕ) (at q : PageNo) where
   pub leads_itself : 1 ≤ level → at.0 ≡ q.0 → true ≡ leads_to (store_of w).pages level q at
-  unfolding reached_under among some_one
+  unfolding reached_under among
   leads_itself h e = go level h
     where
       go : (l : ℕ) → 1 ≤ l → true ≡ leads_to (store_of w).pages l q at
@@ -55,11 +55,11 @@ module _ (p : ℕ) (w : List ℕ) (level : ℕ) (at q : PageNo) where
 
   module _ (other : at.0 ≡ q.0 → ⊥) where
     pub leads_nowhere : level ≡ 1 → false ≡ leads_to (store_of w).pages level q at
-    unfolding reached_under among some_one
+    unfolding reached_under among
     leads_nowhere e = rw (e, ne_eqb at.0 q.0 other)
 
     inner_leads : (l : ℕ) → 1 ≤ l → leads_to (store_of w).pages (suc l) q at ≡ some_one (λ e. leads_to (store_of w).pages l q (child_of e)) (page_at (store_of w).pages at).places
-    unfolding reached_under among some_one
+    unfolding reached_under among
     inner_leads zero h = absurd (omega arith)
     inner_leads (suc l) h = rw (ne_eqb at.0 q.0 other) (among_flat q (λ e. reached_under (store_of w).pages (suc l) (child_of e)) (page_at (store_of w).pages at).places)
 

@@ -63,7 +63,7 @@ module _ (ps : List Contents) (p : PageNo) (fs : List Bool) where
 -- ---- several places
 module _ (ps : List Contents) (l : ℕ) (e : Entry) (es : List Entry) (fs : List Bool) where
   walks_more : walks_all ps l (e ∷ es) fs ≡ (walks ps l (child_of e) fs && walks_all ps l es (flagged (reached_under ps l (child_of e)) fs))
-  unfolding walks_all walks reached_all flat_map every
+  unfolding walks_all walks reached_all flat_map
   walks_more =
       rw (new_append (reached_under ps l (child_of e)) (flat_map (λ e. reached_under ps l (child_of e)) es) fs)
       (regrouped (levelled ps l (child_of e)) (every (λ e. levelled ps l (child_of e)) es) _ _)
@@ -95,7 +95,7 @@ module _ (ps : List Contents) (l : ℕ) (es : List Entry) (before : List Bool) (
   none_left h = drop_of_length-le es {i = i} (omega arith)
 
   pub all_walked : n ≤ i → true ≡ walks_all ps l es before
-  unfolding walks_all reached_all flat_map every all_new
+  unfolding walks_all reached_all flat_map all_new
   all_walked h = sym (w.so_far ∙ rw (none_left h))
 
   pub all_flagged : n ≤ i → fs ≡ flagged (reached_all ps l es) before

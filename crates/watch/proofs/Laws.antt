@@ -151,12 +151,11 @@ module _ (v : List ℕ) (i : ℕ) (left : Watching v i) where
   bs = (store_of v).boards
 
   pub boards_end : length bs ≤ i → true ≡ rule8 (store_of v)
-  unfolding every
   boards_end h = let e : drop i bs ≡ [] = drop_of_length-le bs h in ap (every (board_sound (store_of v))) (sym e) ∙ left
 
   module _ (inside : i < length bs) (b : List ℕ) (there : board_of b ≡ board_at (store_of v) i) (s : Bool) (test : s ≡ board_sound (store_of v) (board_of b)) where
     turn : (s && every (board_sound (store_of v)) (drop (suc i) bs)) ≡ rule8 (store_of v)
-    unfolding every board_at
+    unfolding board_at
     turn = rw (test, there) (rw (drop-cons bs i closed inside) at left)
 
     pub board_off : not s ≡ true → false ≡ rule8 (store_of v)

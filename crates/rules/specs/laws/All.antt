@@ -25,12 +25,10 @@ all_zip (more {x = x} h a) (more k b) f = more (f x h k) (all_zip a b f)
 
 -- ---- as a test
 pub every_all : {A : Type 0} (f : A → Bool) (xs : List A) → every f xs ≡ true → All (λ x. f x ≡ true) xs
-unfolding every
 every_all f [] e = none
 every_all f (x ∷ xs) e = more (and_left (f x) (every f xs) e) (every_all f xs (and_right (f x) (every f xs) e))
 
 pub all_every : {A : Type 0} (f : A → Bool) {xs : List A} → All (λ x. f x ≡ true) xs → every f xs ≡ true
-unfolding every
 all_every f none = refl
 all_every f (more h a) = and_both h (all_every f a)
 

@@ -41,7 +41,6 @@ same_words_self (x ∷ xs) = and_both (eq-eqb x x refl) (same_words_self xs)
 
 -- words that are all zero
 pub zeros : (ws : List ℕ) → every (λ n. eqb n 0) ws ≡ true → ws ≡ replicate (length ws) 0
-unfolding every
 zeros [] e = refl
 zeros (w ∷ ws) e = ap₂ (λ u v. u ∷ v) (eqb-true w 0 (and_left (eqb w 0) _ e)) (zeros ws (and_right (eqb w 0) _ e))
 

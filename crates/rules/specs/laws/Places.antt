@@ -11,19 +11,16 @@ use Rattle.rules.specs.Lists.{cut, first, without}
 
 -- ---- words cut into n parts of one size
 pub cut-length : (n size : ℕ) (ws : List ℕ) → length (cut n size ws) ≡ n
-unfolding cut
 cut-length zero size ws = refl
 cut-length (suc n) size ws = ap suc (cut-length n size (drop size ws))
 
 pub take-cut : (m n size : ℕ) (ws : List ℕ) → m ≤ n → take m (cut n size ws) ≡ cut m size ws
-unfolding cut
 take-cut zero n size ws h = refl
 take-cut (suc m) zero size ws h = absurd (not-suc-le-zero h)
 take-cut (suc m) (suc n) size ws h = ap (λ r. take size ws ∷ r) (take-cut m n size (drop size ws) (le_of_suc-le-suc h))
 
 -- what is read from part i
 pub parts_at : {A : Type 0} (f : List ℕ → A) (n size : ℕ) (ws : List ℕ) (i : ℕ) (d : A) → i < n → get_or (map f (cut n size ws)) i d ≡ f (take size (drop (size * i) ws))
-unfolding cut
 parts_at f zero size ws i d h = absurd (not-suc-le-zero h)
 parts_at f (suc n) size ws zero d h = rw (mul-zero size)
 parts_at f (suc n) size ws (suc i) d h =

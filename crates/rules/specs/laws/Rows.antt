@@ -277,17 +277,14 @@ neither true b e = absurd (true≢false e)
 neither false b e = (refl, e)
 
 some_one_at : {A : Type 0} (f : A → Bool) {x : A} {xs : List A} → Mem x xs → f x ≡ true → some_one f xs ≡ true
-unfolding some_one
 some_one_at f (Memᴰ.head {xs = ys} e) h = ap (λ b. b || some_one f ys) (rw e at h)
 some_one_at f (Memᴰ.tail {x = y} m) h = ap (λ b. f y || b) (some_one_at f m h) ∙ or-true (f y)
 
 pub no_one : {A : Type 0} (f : A → Bool) {xs : List A} → All (λ x. f x ≡ false) xs → some_one f xs ≡ false
-unfolding some_one
 no_one f none = refl
 no_one f (more h a) = rw (h, no_one f a)
 
 pub no_one_all : {A : Type 0} (f : A → Bool) (xs : List A) → some_one f xs ≡ false → All (λ x. f x ≡ false) xs
-unfolding some_one
 no_one_all f [] e = none
 no_one_all f (x ∷ xs) e = let h = neither (f x) (some_one f xs) e in more h.0 (no_one_all f xs h.1)
 

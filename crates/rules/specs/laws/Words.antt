@@ -27,7 +27,7 @@ module _ {A : Type 0} (f : A → List ℕ) (size : ℕ) where
 
   -- cut into as many, they are the parts again
   pub cut_flat : {xs : List A} → All (λ x. length (f x) ≡ size) xs → (rest : List ℕ) → cut (length xs) size (flat_map f xs ++ rest) ≡ map f xs
-  unfolding flat_map cut
+  unfolding flat_map
   cut_flat none rest = refl
   cut_flat (more {x = x} {xs = xs} h a) rest =
       rw (append_assoc (f x) (flat_map f xs) rest, take_at (f x) (flat_map f xs ++ rest) size h, drop_at (f x) (flat_map f xs ++ rest) size h, cut_flat a rest)

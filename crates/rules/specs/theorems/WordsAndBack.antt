@@ -2,7 +2,7 @@
 use Rattle.std.specs.Prelude.{ℕ, ◌≤◌, ◌≡◌, refl, true, List, length}
 use Rattle.std.proofs.Common.{arith, eq-eqb, le-ltb}
 use Rattle.std.proofs.lemmas.Bool.{not-false}
-use Rattle.rules.specs.Lists.{every, same_words, padded}
+use Rattle.rules.specs.Lists.{same_words, padded}
 use Rattle.rules.specs.Store.{Store, memo_start, boards_start, store_length, header_words, words, store_of}
 use Rattle.rules.specs.Sound.{in_range, sound, sound_words}
 use Rattle.rules.specs.Numbers.{first_met}
@@ -18,7 +18,7 @@ words_read s e = fits_read s (in_range_fits s e)
 
 -- its length and its words 0, 4, 6, 8 and 10 to 15 are as they should be
 pub words-laid_out : (s : Store) → in_range s ≡ true → laid_out (words s) ≡ true
-unfolding laid_out words header_words padded every
+unfolding laid_out words header_words padded
 words-laid_out s e =
     let p = length s.pages in
     each_all_of _ (

@@ -44,7 +44,7 @@ abbrev has : PageNo → List ℕ → Bool
 has q ns = leb 1 (count (eqb q.0) ns)
 
 among-has : (q : PageNo) (ns : List ℕ) → among q (map page_no ns) ≡ has q ns
-unfolding among some_one count
+unfolding among count
 among-has q [] = refl
 among-has q (n ∷ ns) = go (eqb q.0 n) refl (among-has q ns)
   where
