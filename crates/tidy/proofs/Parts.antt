@@ -162,4 +162,4 @@ module _ (v : List ℕ) (few : get_or v 5 0 ≤ 16) where
 
   pub board_shut : (r : Bool) → length v ≡ 86 → get_or v 4 0 ≡ 0 → get_or v 5 0 ≡ 0 → r ≡ every is_zero (take (4 - 0) (drop 0 v)) → r ≡ board_in_range (board_of v)
   unfolding board_of board_in_range all_of window_of window_words from
-  board_shut r h e f q = q ∙ rw (words-from 0 4 v (omega arith), e, rows_many v few, f, and-true, and-true)
+  board_shut r h e f q = q ∙ rw (words-from 0 4 v (omega arith), e, rows_many v few, f, and-true, and-true, and-true)
