@@ -174,7 +174,7 @@ pub fn leaf_to_clean(store: &[u32], p: usize) -> PageNo
     let mark = smallest_mark(store, p);
     let leaf = pages(store, p)
         .iter()
-        .position(|page| is_leaf(page) && page[2] == mark.0);
+        .position(|page| is_leaf(page) && Stamp(page[2]) == mark);
     PageNo(leaf.unwrap_or(p) as u32)
 }
 
