@@ -1,74 +1,63 @@
--- What is done to a page's places, from what the code's steps came to. Assumes nothing.
-use Prim.Native.Nat.{ℕ, ◌+◌, ◌-◌, ◌≤◌, ◌<◌, min}
-use native.Mathlib.Omega.{arith}
-use mathlib.Core.Path.{◌≡◌, sym, ◌∙◌}
-use mathlib.Core.List.{List}
-use lib.ListN.{length, get_or, set, drop, length-drop, drop_of_length-le, get_or-eq_default}
-use lib.Seq.{set_out, length-take-le, get_or-take}
-use borrow.Author.Tests.{lt-ltb, le-ltb}
+-- What is done to a page's places, from what the code's steps came to.
+use Rattle.std.proofs.Common.{ℕ, ◌≡◌, ◌+◌, ◌-◌, ◌<◌, min, max, zero, suc, List, [], ◌∷◌, ◌++◌, take, drop, length, get_or, set, take_all, drop-cons, length-drop, add-one, refl, sym, ap, ◌∙◌, arith}
+use Rattle.std.specs.List.{fold, copy_within}
+use Rattle.std.proofs.lemmas.List.{drop_all, set_at}
+use Rattle.std.proofs.Math.Seq.{take-nil}
 use Rattle.rules.specs.declared.Box.{Box}
 use Rattle.rules.specs.declared.Entry.{Entry}
 use Rattle.rules.specs.Lists.{without}
-use Rattle.rules.specs.Boxes.{cover, cover_of}
-use Rattle.rules.specs.Store.{no_place}
+use Rattle.rules.specs.Boxes.{cover, cover_of, no_box}
 use Rattle.rules.specs.Tree.{its_box}
 use Rattle.rules.specs.laws.Lists.{length-zero}
-use Rattle.rules.specs.laws.Boxes.{cover_of_more}
-use Rattle.rules.specs.laws.Places.{drop-before, gap_moved, gap_last}
+use Rattle.rules.specs.laws.Places.{without-length}
 use Rattle.page.specs.declared.Page.{Page}
-use Rattle.page.specs.Struct.{contents, with_place, added, removed}
+use Rattle.page.specs.Struct.{contents}
 
--- ---- one place read, set or added
-module _ (g : Page) (eight : length g.places ≡ 8) where
-  pub past_place : (i : ℕ) (e : Entry) → 8 ≤ i → e ≡ no_place → e ≡ get_or g.places i no_place
-  past_place i e h q = q ∙ sym (get_or-eq_default g.places no_place (omega arith))
+-- ---- the cover of places, from the first to the last
+abbrev pub with_box : Box → Entry → Box
+with_box b e = cover b e.bounds
 
-  pub past_set : (i : ℕ) (e : Entry) → 8 ≤ i → g ≡ with_place g i e
-  unfolding with_place
-  past_set i e h = rw (set_out g.places i e (omega arith))
+cover_assoc : (a b c : Box) → cover (cover a b) c ≡ cover a (cover b c)
+unfolding cover
+cover_assoc a b c =
+    let x0 : min (min a.x0 b.x0) c.x0 ≡ min a.x0 (min b.x0 c.x0) = omega arith in
+    let y0 : min (min a.y0 b.y0) c.y0 ≡ min a.y0 (min b.y0 c.y0) = omega arith in
+    let x1 : max (max a.x1 b.x1) c.x1 ≡ max a.x1 (max b.x1 c.x1) = omega arith in
+    let y1 : max (max a.y1 b.y1) c.y1 ≡ max a.y1 (max b.y1 c.y1) = omega arith in
+    cc
 
-  pub full_page : (e : Entry) → 8 ≤ g.count → g ≡ added g e
-  unfolding added
-  full_page e h = rw (le-ltb g.count 8 h)
+fold_cover : (a b : Box) (es : List Entry) → fold with_box (cover a b) es ≡ cover a (fold with_box b es)
+fold_cover a b [] = refl
+fold_cover a b (e ∷ es) = ap (λ r. fold with_box r es) (cover_assoc a b e.bounds) ∙ fold_cover a (cover b e.bounds) es
 
-  pub room-added : (e : Entry) → g.count < 8 → record { kind = g.kind; count = g.count + 1; mark = g.mark; places = set g.places g.count e } ≡ added g e
-  unfolding added
-  room-added e h = rw (lt-ltb g.count 8 h)
+fold_covers : (e : Entry) (es : List Entry) → fold with_box e.bounds es ≡ cover_of its_box (e ∷ es)
+unfolding cover_of
+fold_covers e [] = refl
+fold_covers e (f ∷ es) = fold_cover e.bounds f.bounds es ∙ ap (cover e.bounds) (fold_covers f es)
 
--- ---- the gap that a removed place leaves moves on to the last place
-module _ (ps qs : List Entry) (i j : ℕ) (eight : length qs ≡ 8) (so_far : without qs j ≡ without ps i) where
-  pub gap_turn : (d : Entry) → j < 7 → without (set qs j (get_or qs (j + 1) d)) (j + 1) ≡ without ps i
-  gap_turn d h = gap_moved qs j d (omega arith) ∙ so_far
-
-pub gap_closed : (g : Page) (qs : List Entry) (i j : ℕ) (e : Entry) → length qs ≡ 8 → without qs j ≡ without g.places i → j ≤ 7 → 7 ≤ j → e ≡ no_place
-    → record { kind = g.kind; count = g.count - 1; mark = g.mark; places = set qs 7 e } ≡ removed g i
-unfolding removed
-gap_closed g qs i j e eight so_far h k q =
-    let last : j ≡ 7 = omega arith in
-    rw (gap_last qs 7 e (omega arith), ← last, so_far, q)
-
--- ---- the cover of the used places, from the last to the first
-module _ (g : Page) (eight : length g.places ≡ 8) (n : ℕ) (many : n ≡ min 8 g.count) where
-  used-length : length (contents g).places ≡ n
+module _ (g : Page) (n : ℕ) (many : n ≡ min g.count 8) where
+  used_is : (contents g).places ≡ take n g.places
   unfolding contents
-  used-length = length-take-le (min 8 g.count) g.places (omega arith) ∙ sym many
+  used_is = ap (λ k. take k g.places) (omega arith)
 
-  used_at : (j : ℕ) (d : Entry) → j < n → get_or (contents g).places j d ≡ get_or g.places j d
-  unfolding contents
-  used_at j d h = get_or-take (min 8 g.count) g.places j d (omega arith)
-
-  pub none_covered : (e : Entry) → n ≡ 0 → e ≡ no_place → e.bounds ≡ cover_of its_box (contents g).places
+  pub none_covered : (b : Box) → length (take n g.places) ≡ 0 → b ≡ no_box → b ≡ cover_of its_box (contents g).places
   unfolding cover_of
-  none_covered e z q = rw (q, length-zero (contents g).places (used-length ∙ z))
+  none_covered b z e = rw (used_is, length-zero _ z) e
 
-  pub last_covered : (d : Entry) → (n ≡ 0 → ⊥) → (get_or g.places (n - 1) d).bounds ≡ cover_of its_box (drop (n - 1) (contents g).places)
-  unfolding cover_of
-  last_covered d h =
-      let long = used-length in
-      rw (drop-before (contents g).places n d (omega arith) (omega arith), drop_of_length-le (contents g).places {i = n} (omega arith), used_at (n - 1) d (omega arith))
+  pub some_covered : (e : Entry) (es : List Entry) (b : Box) → take n g.places ≡ e ∷ es → b ≡ fold with_box e.bounds es → b ≡ cover_of its_box (contents g).places
+  some_covered e es b there f = f ∙ fold_covers e es ∙ ap (cover_of its_box) (sym (used_is ∙ there))
 
-  pub one_more-covered : (d : Entry) (b c : Box) (j : ℕ) → 0 < j → j < n → b ≡ cover_of its_box (drop j (contents g).places) → c ≡ cover (get_or g.places (j - 1) d).bounds b
-      → c ≡ cover_of its_box (drop (j - 1) (contents g).places)
-  one_more-covered d b c j h k e q =
-      let long = used-length in
-      rw (drop-before (contents g).places j d h (omega arith), cover_of_more its_box _ (drop j (contents g).places) (rw length-drop (omega arith)), used_at (j - 1) d (omega arith), ← e) q
+-- ---- the places behind a removed one move down
+without_is : {A : Type 0} (xs : List A) (i : ℕ) → without xs i ≡ take i xs ++ drop (suc i) xs
+unfolding without
+without_is [] i = sym (ap (λ r. r ++ drop (suc i) []) (take-nil i))
+without_is (x ∷ xs) zero = refl
+without_is (x ∷ xs) (suc i) = ap (λ r. x ∷ r) (without_is xs i)
+
+pub moved_down : (xs : List Entry) (i : ℕ) (d : Entry) → length xs ≡ 8 → i < 8 → set (copy_within xs (i + 1) 8 i) 7 d ≡ without xs i ++ d ∷ []
+moved_down xs i d long h =
+    let others : take (8 - (i + 1)) (drop (i + 1) xs) ≡ drop (i + 1) xs = take_all _ _ (simp length-drop (omega arith)) in
+    let seven : i + (8 - (i + 1)) ≡ 7 = omega arith in
+    let last : drop 7 xs ≡ get_or xs 7 d ∷ [] = drop-cons xs 7 d (omega arith) ∙ ap (λ r. get_or xs 7 d ∷ r) (drop_all 8 xs (omega arith)) in
+    let as_without : take i xs ++ drop (i + 1) xs ≡ without xs i = rw add-one (sym (without_is xs i)) in
+    rw (others, seven, last, as_without) (set_at (without xs i) (get_or xs 7 d) [] d 7 (omega (arith, without-length xs i (omega arith))))

@@ -1,140 +1,111 @@
--- Searches over all pages: what page i's words say, and what each turn of a search shows. Assumes nothing.
-use Prim.Native.Nat.{ℕ, ◌+◌, ◌-◌, ◌*◌, ◌≤◌, ◌<◌, min}
-use native.Mathlib.Omega.{arith}
-use native.Mathlib.Nat.{add-zero}
-use mathlib.Core.Path.{◌≡◌, sym, ap, ◌∙◌}
-use mathlib.Core.Bool.{Bool, true, false}
-use mathlib.Core.List.{List, [], ◌∷◌}
-use lib.Dec.{eqb}
-use lib.ListN.{length, get_or, take, drop, length-map, drop_of_length-le}
-use lib.Seq.{get_or-take, get_or-drop}
-use borrow.Author.Tests.{eq-eqb, ne_eqb, le-leb, lt-leb}
+-- Searches over all pages, each seen as its words.
+use Rattle.std.proofs.Common.{ℕ, ◌≡◌, ◌+◌, ◌*◌, ◌≤◌, min, Bool, true, false, cond, ◌&&◌, eqb, ltb, leb, List, [], ◌∷◌, map, length, get_or, sum, Option, Some, None, Fits, w32, refl, sym, ap, ◌∙◌, arith}
+use Rattle.std.specs.List.{position, position_or_len, filter, fold}
+use Rattle.std.specs.Option.{unwrap_or}
+use Rattle.std.proofs.lemmas.List.{length-map}
+use Rattle.std.proofs.lemmas.List.Recursion.{is_position_or_len}
+use Rattle.std.proofs.lemmas.List.Sums.{prefix_len-le-length, sum_by-cons}
+use borrow.Author.Tests.{ltb-false, leb-true, leb-false}
 use Rattle.rules.specs.declared.Stamp.{Stamp}
 use Rattle.rules.specs.Lists.{first}
-use Rattle.rules.specs.Store.{Page as Contents, stamp, page_no, free_page, page_of, pages_of, limit}
+use Rattle.rules.specs.Store.{Page as Contents, stamp, page_no, limit, page_of}
 use Rattle.rules.specs.Tree.{lowest_free}
 use Rattle.rules.specs.Cleaning.{smallest_mark, leaf_to_clean}
-use Rattle.rules.specs.laws.Places.{cut-length, drop-before, first_here, first_later, first_nowhere}
-use Rattle.page.specs.Struct.{page_in, lower_mark, leaf_marked}
 use Rattle.rules.specs.Live.{held_in, held_count}
-use Rattle.page.specs.Laws.{pages_length, page_number}
+use Rattle.rules.specs.laws.Tests.{either, and_right}
+use Rattle.rules.specs.laws.Places.{cut-length}
 
--- ---- what page i's first words say
-module _ (w : List ℕ) (i : ℕ) where
-  word : (j : ℕ) → j < 52 → get_or (take 52 (drop (16 + 52 * i) w)) j 0 ≡ get_or w (16 + 52 * i + j) 0
-  word j h = get_or-take 52 (drop (16 + 52 * i) w) j 0 h ∙ get_or-drop (16 + 52 * i) w j 0
+-- what tells of a page that it is free, and that it is a leaf
+abbrev pub free : List ℕ → Bool
+free w = eqb (get_or w 0 0) 0
 
-  pub kind_word : get_or w (16 + 52 * i) 0 ≡ (page_in w i).kind
-  unfolding page_in page_of
-  kind_word = rw (word 0 (omega arith), add-zero)
+abbrev pub leaf : List ℕ → Bool
+leaf w = eqb (get_or w 0 0) 1
 
-  pub mark_word : stamp (get_or w (16 + 52 * i + 2) 0) ≡ (page_in w i).mark
-  unfolding page_in page_of
-  mark_word = rw (word 2 (omega arith))
+-- ---- the first page that passes a test of its words
+or_else : (k n : ℕ) → k ≤ n → unwrap_or (cond (ltb k n) (Some k) None) n ≡ k
+or_else k n h = either (λ (o : Option ℕ). unwrap_or o n ≡ k) (ltb k n) (λ t. refl) (λ f. omega (arith, ltb-false k n f))
 
-  count_word : min 8 (get_or w (16 + 52 * i + 1) 0) ≡ length (page_in w i).places
-  unfolding page_in page_of
-  count_word = rw (length-map, cut-length, word 1 (omega arith))
+module _ (test : List ℕ → Bool) (ws : List (List ℕ)) (n : ℕ) (long : length ws ≡ n) where
+  position_is : unwrap_or (position test ws) n ≡ position_or_len test ws
+  position_is = rw (← long) (or_else _ _ (prefix_len-le-length _ ws))
 
-  pub leaf_holds : (kind n : ℕ) → kind ≡ (page_in w i).kind → kind ≡ 1 → n ≡ min 8 (get_or w (16 + 52 * i + 1) 0) → n ≡ held_in (page_in w i)
-  unfolding held_in
-  leaf_holds kind n its e q = rw (eq-eqb (page_in w i).kind 1 (sym its ∙ e)) (q ∙ count_word)
+  pub position_fits : n ≤ 192 → (k : ℕ) → k ≡ unwrap_or (position test ws) n → Fits w32 k
+  position_fits h k e = let most : position_or_len test ws ≤ length ws = prefix_len-le-length _ ws in record { fits = omega (arith, e ∙ position_is) }
 
--- ---- what the page counts for
-module _ (g : Contents) (kind : ℕ) (its : kind ≡ g.kind) where
-  pub other_holds : (kind ≡ 1 → ⊥) → 0 ≡ held_in g
-  unfolding held_in
-  other_holds e = rw (ne_eqb g.kind 1 (λ q. e (its ∙ q)))
+  first_found : (f : Contents → Bool) → ((w : List ℕ) → f (page_of w) ≡ test w) → unwrap_or (position test ws) n ≡ first f (map page_of ws)
+  unfolding first
+  first_found f same =
+      position_is ∙ sym (is_position_or_len (λ ws. first f (map page_of ws)) test refl (λ w ws. rw (same w) (ap (λ n. cond (test w) 0 n) (omega arith))) ws)
 
-  module _ (later : Stamp) where
-    pub other_mark : (kind ≡ 1 → ⊥) → later ≡ lower_mark g later
-    unfolding lower_mark
-    other_mark e = rw (ne_eqb g.kind 1 (λ q. e (its ∙ q)))
+module _ (ws : List (List ℕ)) (n : ℕ) (long : length ws ≡ n) where
+  pub free_found : (k : ℕ) → k ≡ unwrap_or (position free ws) n → page_no k ≡ lowest_free (map page_of ws)
+  unfolding lowest_free page_of
+  free_found k e = ap page_no (e ∙ first_found free ws n long (λ g. eqb g.kind 0) (λ w. refl))
 
-    pub low_mark : (m : Stamp) → kind ≡ 1 → m ≡ g.mark → m.0 ≤ later.0 → m ≡ lower_mark g later
-    unfolding lower_mark
-    low_mark m e q h = rw (eq-eqb g.kind 1 (sym its ∙ e), ← q, le-leb m.0 later.0 h)
+  pub leaf_found : (mark : Stamp) (k : ℕ) → mark ≡ smallest_mark (map page_of ws) → k ≡ unwrap_or (position (λ w. leaf w && eqb (get_or w 2 0) mark.0) ws) n
+      → page_no k ≡ leaf_to_clean (map page_of ws)
+  unfolding leaf_to_clean page_of
+  leaf_found mark k q e =
+      rw (← q) (ap page_no (e ∙ first_found (λ w. leaf w && eqb (get_or w 2 0) mark.0) ws n long (λ g. eqb g.kind 1 && eqb g.mark.0 mark.0) (λ w. refl)))
 
-    pub high_mark : (m : Stamp) → kind ≡ 1 → m ≡ g.mark → later.0 < m.0 → later ≡ lower_mark g later
-    unfolding lower_mark
-    high_mark m e q h = rw (eq-eqb g.kind 1 (sym its ∙ e), ← q, lt-leb m.0 later.0 h)
+-- ---- what the leaves come to
+map_kept : {A B : Type 0} (f : A → B) (b : Bool) (x : A) (xs : List A) → map f (cond b (x ∷ xs) xs) ≡ cond b (f x ∷ map f xs) (map f xs)
+map_kept f true x xs = refl
+map_kept f false x xs = refl
 
-  pub other_marked : (m : Stamp) → (kind ≡ 1 → ⊥) → false ≡ leaf_marked m g
-  unfolding leaf_marked
-  other_marked m e = rw (ne_eqb g.kind 1 (λ q. e (its ∙ q)))
+abbrev pub mark_of : List ℕ → ℕ
+mark_of w = get_or w 2 0
 
-  pub leaf_has_mark : (own m : Stamp) → kind ≡ 1 → own ≡ g.mark → eqb own.0 m.0 ≡ leaf_marked m g
-  unfolding leaf_marked
-  leaf_has_mark own m e q = rw (eq-eqb g.kind 1 (sym its ∙ e), q)
+lower : (a m : ℕ) (s : Stamp) → min (min a m) s.0 ≡ min a (cond (leb m s.0) (stamp m) s).0
+lower a m s = either (λ (r : Stamp). min (min a m) s.0 ≡ min a r.0) (leb m s.0) (λ t. omega (arith, leb-true m s.0 t)) (λ f. omega (arith, leb-false m s.0 f))
 
--- ---- upward: the first page that passes is not before page i
-abbrev pub Sought : (Contents → Bool) → List ℕ → ℕ → ℕ → Type 0
-Sought f w p i = first f (pages_of p (drop 16 w)) ≡ i + first f (drop i (pages_of p (drop 16 w)))
+marks_more : (a : ℕ) (b : Bool) (m : ℕ) (ms : List ℕ) (s : Stamp) → fold min a ms ≡ min a s.0 → fold min (min a m) ms ≡ min (min a m) s.0
+    → fold min a (cond b (m ∷ ms) ms) ≡ min a (cond (b && leb m s.0) (stamp m) s).0
+marks_more a true m ms s h k = k ∙ lower a m s
+marks_more a false m ms s h k = h
 
-module _ (f : Contents → Bool) (w : List ℕ) (p i : ℕ) (so_far : Sought f w p i) where
-  here : i < p → f (page_in w i) ≡ true → first f (pages_of p (drop 16 w)) ≡ i
-  here h e =
-      first_here f (pages_of p (drop 16 w)) i so_far free_page (rw (pages_length w p) h) (rw (page_number w p i h) e)
+marks : (a : ℕ) (ws : List (List ℕ)) → a ≤ limit → fold min a (map mark_of (filter leaf ws)) ≡ min a (smallest_mark (map page_of ws)).0
+unfolding smallest_mark page_of
+marks a [] h = omega arith
+marks a (w ∷ ws) h =
+    ap (fold min a) (map_kept mark_of (leaf w) w (filter leaf ws))
+    ∙ marks_more a (leaf w) (mark_of w) (map mark_of (filter leaf ws)) _ (marks a ws h) (marks (min a (mark_of w)) ws (omega arith))
 
-  later : i < p → f (page_in w i) ≡ false → Sought f w p (i + 1)
-  later h e =
-      first_later f (pages_of p (drop 16 w)) i so_far free_page (rw (pages_length w p) h) (rw (page_number w p i h) e)
+smallest-most : (gs : List Contents) → (smallest_mark gs).0 ≤ limit
+unfolding smallest_mark
+smallest-most [] = omega arith
+smallest-most (g ∷ gs) =
+    let later = smallest-most gs in
+    either (λ (s : Stamp). s.0 ≤ limit) (eqb g.kind 1 && leb g.mark.0 (smallest_mark gs).0) (λ t. omega (arith, leb-true _ _ (and_right (eqb g.kind 1) (leb g.mark.0 (smallest_mark gs).0) t))) (λ f. later)
 
-  nowhere : i ≤ p → p ≤ i → first f (pages_of p (drop 16 w)) ≡ p
-  nowhere h k = first_nowhere f (pages_of p (drop 16 w)) i so_far (rw (pages_length w p) k) ∙ omega arith
+pub marks_lowest : (ws : List (List ℕ)) (m : ℕ) → m ≡ fold min limit (map mark_of (filter leaf ws)) → stamp m ≡ smallest_mark (map page_of ws)
+marks_lowest ws m e = ap stamp (omega (arith, marks limit ws (omega arith), smallest-most (map page_of ws)))
 
--- the lowest free page
-module _ (w : List ℕ) (p i : ℕ) (so_far : Sought (λ g. eqb g.kind 0) w p i) where
-  pub free_here : (kind : ℕ) → i < p → kind ≡ (page_in w i).kind → kind ≡ 0 → page_no i ≡ lowest_free (pages_of p (drop 16 w))
-  unfolding lowest_free
-  free_here kind h its e = ap page_no (sym (here _ w p i so_far h (eq-eqb (page_in w i).kind 0 (sym its ∙ e))))
+-- how many entries a leaf holds
+abbrev pub held_of : List ℕ → ℕ
+held_of w = min (get_or w 1 0) 8
 
-  pub free_later : (kind : ℕ) → i < p → kind ≡ (page_in w i).kind → (kind ≡ 0 → ⊥) → Sought (λ g. eqb g.kind 0) w p (i + 1)
-  free_later kind h its e = later _ w p i so_far h (ne_eqb (page_in w i).kind 0 (λ q. e (its ∙ q)))
+held_there : (w : List ℕ) → held_of w ≡ length (page_of w).places
+unfolding page_of
+held_there w = rw (length-map, cut-length) (omega arith)
 
-  pub free_nowhere : i ≤ p → p ≤ i → page_no p ≡ lowest_free (pages_of p (drop 16 w))
-  unfolding lowest_free
-  free_nowhere h k = ap page_no (sym (nowhere _ w p i so_far h k))
+sum_kept : (b : Bool) (m n : ℕ) (ms : List ℕ) → m ≡ n → sum (cond b (m ∷ ms) ms) ≡ cond b n 0 + sum ms
+sum_kept true m n ms e = sum_by-cons (λ k. k) m ms ∙ ap (λ k. k + sum ms) e
+sum_kept false m n ms e = omega arith
 
--- the leaf with the smallest mark
-module _ (w : List ℕ) (p i : ℕ) (mark : Stamp) (so_far : Sought (leaf_marked mark) w p i) where
-  pub clean_later : (r : Bool) → i < p → r ≡ leaf_marked mark (page_in w i) → r ≡ false → Sought (leaf_marked mark) w p (i + 1)
-  clean_later r h its e = later _ w p i so_far h (sym its ∙ e)
+pub held_counted : (ws : List (List ℕ)) → sum (map held_of (filter leaf ws)) ≡ held_count (map page_of ws)
+unfolding held_count held_in page_of
+held_counted [] = refl
+held_counted (w ∷ ws) =
+    let later = held_counted ws in
+    ap sum (map_kept held_of (leaf w) w (filter leaf ws)) ∙ sum_kept (leaf w) (held_of w) _ (map held_of (filter leaf ws)) (held_there w) ∙ omega arith
 
-  module _ (smallest : mark ≡ smallest_mark (pages_of p (drop 16 w))) where
-    pub clean_here : (r : Bool) → i < p → r ≡ leaf_marked mark (page_in w i) → r ≡ true → page_no i ≡ leaf_to_clean (pages_of p (drop 16 w))
-    unfolding leaf_to_clean leaf_marked
-    clean_here r h its e = ap page_no (sym (here _ w p i so_far h (sym its ∙ e))) ∙ ap (λ m. page_no (first (leaf_marked m) (pages_of p (drop 16 w)))) smallest
+held_few : (g : Contents) → length g.places ≤ 8 → held_in g ≤ 8
+unfolding held_in
+held_few g h = either (λ n. n ≤ 8) (eqb g.kind 1) (λ t. h) (λ f. omega arith)
 
-    pub clean_nowhere : i ≤ p → p ≤ i → page_no p ≡ leaf_to_clean (pages_of p (drop 16 w))
-    unfolding leaf_to_clean leaf_marked
-    clean_nowhere h k = ap page_no (sym (nowhere _ w p i so_far h k)) ∙ ap (λ m. page_no (first (leaf_marked m) (pages_of p (drop 16 w)))) smallest
-
--- ---- downward: what the pages from i on come to
-module _ (w : List ℕ) (p i : ℕ) where
-  before : 0 < i → i ≤ p → drop (i - 1) (pages_of p (drop 16 w)) ≡ page_in w (i - 1) ∷ drop i (pages_of p (drop 16 w))
-  before h k =
-      drop-before (pages_of p (drop 16 w)) i free_page h (rw (pages_length w p) k) ∙ rw (page_number w p (i - 1) (omega arith))
-
-  pub mark_turn : (m r : Stamp) → 0 < i → i ≤ p → m ≡ smallest_mark (drop i (pages_of p (drop 16 w))) → r ≡ lower_mark (page_in w (i - 1)) m
-      → r ≡ smallest_mark (drop (i - 1) (pages_of p (drop 16 w)))
-  unfolding smallest_mark lower_mark
-  mark_turn m r h k e q = rw (before h k, ← e) q
-
-  pub held_turn : (n r : ℕ) → 0 < i → i ≤ p → n ≡ held_count (drop i (pages_of p (drop 16 w))) → r ≡ held_in (page_in w (i - 1))
-      → n + r ≡ held_count (drop (i - 1) (pages_of p (drop 16 w)))
-  unfolding held_count
-  held_turn n r h k e q = rw (before h k, ← e, ← q) (omega arith)
-
--- from the last page on there is none
-module _ (w : List ℕ) (p : ℕ) where
-  none_left : drop p (pages_of p (drop 16 w)) ≡ []
-  none_left = drop_of_length-le (pages_of p (drop 16 w)) {i = p} (rw (pages_length w p) (omega arith))
-
-  pub no_mark : stamp limit ≡ smallest_mark (drop p (pages_of p (drop 16 w)))
-  unfolding smallest_mark
-  no_mark = rw none_left
-
-  pub none_held : 0 ≡ held_count (drop p (pages_of p (drop 16 w)))
-  unfolding held_count
-  none_held = rw none_left
+pub held_most : (ws : List (List ℕ)) → held_count (map page_of ws) ≤ 8 * length ws
+unfolding held_count
+held_most [] = omega arith
+held_most (w ∷ ws) = omega (arith, held_most ws, held_few (page_of w) (omega (arith, held_there w)))
