@@ -1,1 +1,1 @@
-pub mod Merging
+pub mod Sorting
