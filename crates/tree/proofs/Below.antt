@@ -2,17 +2,16 @@
 use Prim.Native.Nat.{ℕ, zero, suc, ◌-◌, ◌≤◌, ◌<◌, min}
 use native.Mathlib.Omega.{arith}
 use mathlib.Core.Path.{◌≡◌, refl, sym, ap, ◌∙◌}
-use mathlib.Core.Bool.{Bool, true, false}
 use mathlib.Core.List.{List, [], ◌∷◌, ◌++◌}
-use lib.Dec.{leb, ltb}
-use lib.ListN.{length, get_or, set, take, length-set}
+use lib.Dec.{leb}
+use lib.ListN.{length, get_or, set, take, length-set, get_or-eq_default}
 use lib.Seq.{set_out}
-use borrow.Author.Tests.{leb-false, ltb-true, ltb-false}
+use borrow.Author.Tests.{leb-false}
 use Rattle.rules.specs.declared.Box.{Box}
 use Rattle.rules.specs.declared.PageNo.{PageNo}
 use Rattle.rules.specs.declared.Entry.{Entry}
 use Rattle.rules.specs.Boxes.{cover_of}
-use Rattle.rules.specs.Store.{Page as Contents, no_place, child_of, store_of, stamp}
+use Rattle.rules.specs.Store.{Page as Contents, no_place, page_no, child_of, store_of, stamp}
 use Rattle.rules.specs.Tree.{its_box, with_places, choose, child_place, settled, renewed, whole, parted, pages_in, put_below, Written as Result, cover_page}
 use Rattle.rules.specs.Views.{ProperBox}
 use Rattle.rules.specs.laws.Tests.{either}
@@ -22,78 +21,81 @@ use Rattle.page.specs.declared.Page.{Page}
 use Rattle.page.specs.Struct.{contents, laid_page, struct_at, with_struct, with_place}
 use Rattle.page.specs.Laws.{laid_contents, laid_set}
 use Rattle.split.specs.Split.{Chosen}
-use Rattle.tree.specs.declared.Written.{Written}
-use Rattle.tree.specs.declared.Written.TheVariants.{Whole, Parted}
-use Rattle.tree.specs.Putting.{Ready, Laid, Wrote, Put, answer, result, settled_in, renewed_in, picked}
-use Rattle.tree.specs.Laws.{laid_few, laid_count, laid_at, laid_length, laid_of, read_laid, read-contents, child_proper, page-put, wrote_then, wrote_pages}
+use Rattle.std.specs.Prelude.{Option, Some, None, IfSome, unwrap_or}
+use Rattle.tree.specs.Putting.{Ready, Laid, Wrote, Put, answer, result, settled_in, renewed_in, picked, child_in, with_entry}
+use Rattle.tree.specs.Laws.{laid_few, laid_count, laid_at, laid_of, read-contents, child_proper, page-put, wrote_then, wrote_pages}
 
 -- ---- the place picked
 -- it is read and set as the one that the rules choose
-picked-place : (new : Box) (es : List Entry) → get_or es (picked new es) no_place ≡ get_or es (choose its_box new es) no_place
+picked_place : (new : Box) (es : List Entry) → get_or es (unwrap_or (picked new es) (length es)) no_place ≡ get_or es (choose its_box new es) no_place
 unfolding choose
-picked-place new [] = refl
-picked-place new (e ∷ es) = refl
+picked_place new [] = refl
+picked_place new (e ∷ es) = refl
 
-picked-set : (new : Box) (es : List Entry) (x : Entry) → set es (picked new es) x ≡ set es (choose its_box new es) x
+picked_set : (new : Box) (es : List Entry) (x : Entry) → set es (unwrap_or (picked new es) (length es)) x ≡ set es (choose its_box new es) x
 unfolding choose
-picked-set new [] x = refl
-picked-set new (e ∷ es) x = refl
+picked_set new [] x = refl
+picked_set new (e ∷ es) x = refl
 
-picked-renewed : (new : Box) (es : List Entry) (c : PageNo) (r : Result) → renewed es (picked new es) c r ≡ renewed es (choose its_box new es) c r
+picked_renewed : (new : Box) (es : List Entry) (c : PageNo) (r : Result) → renewed es (unwrap_or (picked new es) (length es)) c r ≡ renewed es (choose its_box new es) c r
 unfolding renewed
-picked-renewed new es c (whole ps) = picked-set new es _
-picked-renewed new es c (parted ps q) = ap (λ l. l ++ (child_place ps q ∷ [])) (picked-set new es _)
+picked_renewed new es c (whole ps) = picked_set new es _
+picked_renewed new es c (parted ps q) = ap (λ l. l ++ (child_place ps q ∷ [])) (picked_set new es _)
 
 -- and is used, or none
-used-picked : (new : Box) (es : List Entry) → picked new es < 8 → picked new es < length es
-used-picked new [] h = absurd (omega arith)
-used-picked new (e ∷ es) h = choose_lt its_box new (e ∷ es) (omega arith)
+used_picked : (new : Box) (es : List Entry) → IfSome (picked new es) (λ i. i < length es)
+used_picked new [] = tt
+used_picked new (e ∷ es) = choose_lt its_box new (e ∷ es) (omega arith)
 
-pub picked-used : (new : Box) (es : List Entry) (i : ℕ) → i ≡ picked new es → i < 8 → i < length es
-picked-used new es i e = rw e (used-picked new es)
+pub picked_used : (new : Box) (es : List Entry) (i : Option ℕ) → i ≡ picked new es → IfSome i (λ i. i < length es)
+picked_used new es i e = rw e (used_picked new es)
 
-picks : (new : Box) (es : List Entry) → 0 < length es → choose its_box new es ≡ picked new es
+picks : (new : Box) (es : List Entry) → 0 < length es → Some (choose its_box new es) ≡ picked new es
 picks new [] h = absurd (omega arith)
 picks new (e ∷ es) h = refl
 
-picks_none : (new : Box) (es : List Entry) → length es ≡ 0 → 8 ≡ picked new es
+picks_none : (new : Box) (es : List Entry) → length es ≡ 0 → None ≡ picked new es
 picks_none new [] h = refl
 picks_none new (e ∷ es) h = absurd (omega arith)
 
 module _ (g : Page) (l : Laid g) (new : Box) where
-  pub pick_none : g.count ≡ 0 → 8 ≡ picked new (contents g).places
+  pub pick_none : g.count ≡ 0 → None ≡ picked new (contents g).places
   pick_none e = picks_none new (contents g).places (omega (arith, laid_count g l))
 
   pub count_most : g.count ≤ 8
   count_most = omega (arith, laid_count g l, laid_few g l)
 
-  pub pick_one : (r : ℕ) → (g.count ≡ 0 → ⊥) → Chosen new (take g.count g.places) g.count r → r ≡ picked new (contents g).places
+  pub pick_one : (r : ℕ) → (g.count ≡ 0 → ⊥) → Chosen new (take g.count g.places) g.count r → Some r ≡ picked new (contents g).places
   unfolding contents
   pick_one r n t =
       let m : min 8 g.count ≡ g.count = omega (arith, count_most) in
-      t.chosen ∙ ap (λ k. choose its_box new (take k g.places)) (sym m) ∙ picks new (contents g).places (omega (arith, laid_count g l))
+      rw (t.chosen ∙ ap (λ k. choose its_box new (take k g.places)) (sym m)) (picks new (contents g).places (omega (arith, laid_count g l)))
+
+-- the child page there
+pub one_child : (g : Page) → Laid g → (i : ℕ) → child_of (get_or g.places i no_place) ≡ child_in (contents g).places (Some i)
+one_child g l i = ap child_of (laid_at g l i)
+
+pub none_child : (es : List Entry) (i : Option ℕ) → i ≡ None → page_no 0 ≡ child_in es i
+none_child es i h = rw (h, get_or-eq_default es no_place {n = length es} (omega arith)) refl
 
 -- ---- another entry in place i
-module _ (g : Page) (l : Laid g) (i : ℕ) (used : i < 8 → i < length (contents g).places) (e : Entry) where
-  place_set : with_place g i e ≡ laid_page (with_places (contents g) (set (contents g).places i e))
-  unfolding with_place
-  place_set = go (ltb i 8) refl
-    where
-      go : (b : Bool) → ltb i 8 ≡ b → with_place g i e ≡ laid_page (with_places (contents g) (set (contents g).places i e))
-      go true t = ap (λ g. with_place g i e) l.laid ∙ laid_set (contents g) (laid_few g l) i e (used (ltb-true i 8 t))
-      go false f =
-          let k = ltb-false i 8 f in
-          rw (set_out g.places i e (omega (arith, laid_length g l)), set_out (contents g).places i e (omega (arith, laid_few g l))) l.laid
+module _ (g : Page) (l : Laid g) (e : Entry) where
+  pub one_set : (i : ℕ) → i < length (contents g).places → with_place g i e ≡ laid_page (with_places (contents g) (with_entry (contents g).places (Some i) e))
+  one_set i used = ap (λ g. with_place g i e) l.laid ∙ laid_set (contents g) (laid_few g l) i e used
 
-  set_few : length (set (contents g).places i e) ≤ 8
+  pub none_set : g ≡ laid_page (with_places (contents g) (with_entry (contents g).places None e))
+  none_set = rw (set_out (contents g).places (length (contents g).places) e (omega arith)) l.laid
+
+module _ (g : Page) (l : Laid g) (i : Option ℕ) (e : Entry) where
+  set_few : length (with_entry (contents g).places i e) ≤ 8
   set_few = rw length-set (laid_few g l)
 
-  module _ (b : ProperBox e.bounds) (y : Page) (q : y ≡ with_place g i e) where
+  module _ (b : ProperBox e.bounds) (y : Page) (q : y ≡ laid_page (with_places (contents g) (with_entry (contents g).places i e))) where
     pub set_laid : Laid y
-    set_laid = rw (q ∙ place_set) (laid_of (with_places (contents g) (set (contents g).places i e)) set_few (all_set l.proper i b))
+    set_laid = rw q (laid_of (with_places (contents g) (with_entry (contents g).places i e)) set_few (all_set l.proper (unwrap_or i (length (contents g).places)) b))
 
-    set-contents : contents y ≡ with_places (contents g) (set (contents g).places i e)
-    set-contents = rw (q ∙ place_set) (laid_contents (with_places (contents g) (set (contents g).places i e)) set_few)
+    set_contents : contents y ≡ with_places (contents g) (with_entry (contents g).places i e)
+    set_contents = rw q (laid_contents (with_places (contents g) (with_entry (contents g).places i e)) set_few)
 
 -- ---- a page's place in its parent
 module _ (p : ℕ) (w : List ℕ) (h : Ready p w) (c : PageNo) where
@@ -105,27 +107,30 @@ module _ (p : ℕ) (w : List ℕ) (h : Ready p w) (c : PageNo) where
   made_proper x e = rw e (child_proper p w h c)
 
 -- ---- the page once its child has been written
-module _ (p : ℕ) (w : List ℕ) (h : Ready p w) (at : PageNo) (g : Page) (l : Laid g) (i : ℕ) (used : i < 8 → i < length (contents g).places) (c : PageNo)
-    (x : Entry) (made : x ≡ child_place (store_of w).pages c) (y : Page) (there : y ≡ with_place g i x) where
+module _ (p : ℕ) (w : List ℕ) (h : Ready p w) (at : PageNo) (g : Page) (l : Laid g) (i : Option ℕ) (c : PageNo) (x : Entry) (made : x ≡ child_place (store_of w).pages c)
+    (y : Page) (there : y ≡ laid_page (with_places (contents g) (with_entry (contents g).places i x))) where
+  abbrev es : List Entry
+  es = with_entry (contents g).places i x
+
   x_proper : ProperBox x.bounds
   x_proper = made_proper p w h c x made
 
   pub renew_laid : Laid y
-  renew_laid = set_laid g l i used x x_proper y there
+  renew_laid = set_laid g l i x x_proper y there
 
-  pub renew_whole : (below : Written) (w' : List ℕ) → below ≡ Whole → w' ≡ with_struct w p at y → Put p w (renewed_in w at g i c below) w' Whole
+  pub renew_whole : (below : Option PageNo) (w' : List ℕ) → below ≡ None → w' ≡ with_struct w p at y → Put p w (renewed_in w at g i c below) w' None
   unfolding settled renewed
   renew_whole below w' e q =
-      let es : List Entry = set (contents g).places i x in
+      let few : length es ≤ 8 = set_few g l i x in
       rw (e, ← made)
-      (either (λ r. Put p w r w' Whole) (leb (length es) 8)
-      (λ t. record { pages = rw (q, there, place_set g l i used x) (page-put p w h at (with_places (contents g) es) (set_few g l i used x) (all_set l.proper i x_proper)); answers = refl })
-      (λ f. absurd (omega (arith, set_few g l i used x, leb-false (length es) 8 f))))
+      (either (λ r. Put p w r w' None) (leb (length es) 8)
+      (λ t. record { pages = rw (q, there) (page-put p w h at (with_places (contents g) es) few (all_set l.proper (unwrap_or i (length (contents g).places)) x_proper)); answers = refl })
+      (λ f. absurd (omega (arith, few, leb-false (length es) 8 f))))
 
-  pub renew_parted : (below : Written) (q : PageNo) (z : Entry) (w' : List ℕ) (a : Written) → below ≡ Parted q → z ≡ child_place (store_of w).pages q
+  pub renew_parted : (below : Option PageNo) (q : PageNo) (z : Entry) (w' : List ℕ) (a : Option PageNo) → below ≡ Some q → z ≡ child_place (store_of w).pages q
       → Put p w (settled_in w at y z) w' a → Put p w (renewed_in w at g i c below) w' a
   unfolding settled renewed
-  renew_parted below q z w' a e k t = rw (e, ← made, ← k) (rw (set-contents g l i used x x_proper y there) at t)
+  renew_parted below q z w' a e k t = rw (e, ← made, ← k) (rw (set_contents g l i x x_proper y there) at t)
 
 -- ---- down to a child
 result_back : (r : Result) → result (answer r) (pages_in r) ≡ r
@@ -133,33 +138,28 @@ result_back (whole ps) = refl
 result_back (parted ps q) = refl
 
 -- what is written after a first writing, from the pages that it left
-put_then : {p : ℕ} {w : List ℕ} {ps : List Contents} {w₁ : List ℕ} {r : Result} {w' : List ℕ} {a : Written} → Wrote p w ps w₁ → Put p w₁ r w' a → Put p w r w' a
+put_then : {p : ℕ} {w : List ℕ} {ps : List Contents} {w₁ : List ℕ} {r : Result} {w' : List ℕ} {a : Option PageNo} → Wrote p w ps w₁ → Put p w₁ r w' a → Put p w r w' a
 put_then one t = record { pages = wrote_then one t.pages; answers = t.answers }
 
 module _ (p : ℕ) (w : List ℕ) (h : Ready p w) (at : PageNo) (e : Entry) (g : Page) (read : g ≡ struct_at w p at) where
-  pub below_here : (depth : ℕ) (w' : List ℕ) (a : Written) → depth ≡ 0 → Put p w (settled_in w at g e) w' a → Put p w (put_below depth (store_of w).pages at e) w' a
+  pub below_here : (depth : ℕ) (w' : List ℕ) (a : Option PageNo) → depth ≡ 0 → Put p w (settled_in w at g e) w' a → Put p w (put_below depth (store_of w).pages at e) w' a
   unfolding put_below
   below_here depth w' a z t = rw (z, ← read-contents p w h at g read) t
 
-  module _ (i : ℕ) (x : Entry) (best : i ≡ picked e.bounds (contents g).places) (found : x ≡ get_or g.places i no_place) where
-    chosen : x ≡ get_or (contents g).places (choose its_box e.bounds (contents g).places) no_place
-    chosen =
-        let l = read_laid p w h at g read in
-        found
-        ∙ laid_at g l i
-        ∙ ap (λ i. get_or (contents g).places i no_place) best
-        ∙ picked-place e.bounds (contents g).places
+  module _ (i : Option ℕ) (best : i ≡ picked e.bounds (contents g).places) (c : PageNo) (found : c ≡ child_in (contents g).places i) where
+    chosen : c ≡ child_of (get_or (contents g).places (choose its_box e.bounds (contents g).places) no_place)
+    chosen = rw (found, best, picked_place e.bounds (contents g).places) refl
 
-    one_up : (r : Result) (c : PageNo) (w₁ : List ℕ) (a₁ : Written) (w' : List ℕ) (a : Written) → Put p w r w₁ a₁ → Put p w₁ (renewed_in w₁ at g i c a₁) w' a
+    one_up : (r : Result) (w₁ : List ℕ) (a₁ : Option PageNo) (w' : List ℕ) (a : Option PageNo) → Put p w r w₁ a₁ → Put p w₁ (renewed_in w₁ at g i c a₁) w' a
         → Put p w (settled (pages_in r) at (contents g) (renewed (contents g).places (choose its_box e.bounds (contents g).places) c r)) w' a
-    one_up r c w₁ a₁ w' a one t =
-        put_then one.pages (rw (wrote_pages one.pages, one.answers, result_back r, best, picked-renewed e.bounds (contents g).places c r) at t)
+    one_up r w₁ a₁ w' a one t =
+        put_then one.pages (rw (wrote_pages one.pages, one.answers, result_back r, best, picked_renewed e.bounds (contents g).places c r) at t)
 
-    pub below_deeper : (depth : ℕ) (w₁ : List ℕ) (a₁ : Written) (w' : List ℕ) (a : Written) → (depth ≡ 0 → ⊥)
-        → Put p w (put_below (depth - 1) (store_of w).pages (child_of x) e) w₁ a₁ → Put p w₁ (renewed_in w₁ at g i (child_of x) a₁) w' a
+    pub below_deeper : (depth : ℕ) (w₁ : List ℕ) (a₁ : Option PageNo) (w' : List ℕ) (a : Option PageNo) → (depth ≡ 0 → ⊥)
+        → Put p w (put_below (depth - 1) (store_of w).pages c e) w₁ a₁ → Put p w₁ (renewed_in w₁ at g i c a₁) w' a
         → Put p w (put_below depth (store_of w).pages at e) w' a
     unfolding put_below
     below_deeper zero w₁ a₁ w' a n one t = absurd (n refl)
     below_deeper (suc d) w₁ a₁ w' a n one t =
         let m : suc d - 1 ≡ d = omega arith in
-        rw (← read-contents p w h at g read, ← chosen) (one_up _ (child_of x) w₁ a₁ w' a (rw m at one) t)
+        rw (← read-contents p w h at g read, ← chosen) (one_up _ w₁ a₁ w' a (rw m at one) t)

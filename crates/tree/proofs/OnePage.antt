@@ -1,12 +1,12 @@
 -- A page that gets one place more: with room, and split. Assumes nothing.
-use Prim.Native.Nat.{ℕ, ◌+◌, ◌*◌, ◌≤◌, ◌<◌, min}
+use Prim.Native.Nat.{ℕ, ◌+◌, ◌-◌, ◌*◌, ◌≤◌, ◌<◌, min}
 use native.Mathlib.Omega.{arith}
 use mathlib.Core.Path.{◌≡◌, refl, sym, ap, ◌∙◌}
 use mathlib.Core.List.Permᴰ
 use mathlib.Core.List.{List, [], ◌∷◌, ◌++◌, map}
 use lib.Dec.{leb}
-use lib.ListN.{length, take, drop, length-append, length-map, take-append-drop}
-use lib.Seq.{slice, length-slice, take_all}
+use lib.ListN.{length, take, drop, length-append, length-map, length-drop, take-append-drop}
+use lib.Seq.{take_all, length-take-le}
 use borrow.Author.Tests.{leb-true, leb-false}
 use Rattle.rules.specs.declared.PageNo.{PageNo}
 use Rattle.rules.specs.declared.Entry.{Entry}
@@ -18,42 +18,36 @@ use Rattle.rules.specs.laws.Tests.{either}
 use Rattle.rules.specs.laws.All.{none, more, all_append, all_back, all_mapped, all_take, map_back, always}
 use Rattle.rules.specs.laws.Order.{all_reordered}
 use Rattle.rules.specs.laws.Words.{place_read}
-use Rattle.rules.specs.laws.Split.{Parted as Halved, split_parted, places_first, places_second, places_proper}
+use Rattle.rules.specs.laws.Split.{split_parted, places_first, places_second, places_proper}
 use Rattle.page.specs.declared.Page.{Page}
 use Rattle.page.specs.Struct.{contents, laid_page, with_struct, added}
 use Rattle.page.specs.Laws.{laid_added}
 use Rattle.split.specs.Split.{Proper, Parts}
-use Rattle.tree.specs.declared.Written.TheVariants.{Whole, Parted}
+use Rattle.std.specs.Prelude.{Some, None}
 use Rattle.tree.specs.Putting.{ProperPlaces, Ready, Laid, Wrote, InTwo, Put, settled_in, page_with}
 use Rattle.tree.specs.Laws.{laid_few, laid_count, laid_length, room, page-put, free_read, wrote_then, wrote_pages}
 
 -- ---- two pages, one after the other
-slice_proper : (from to : ℕ) (rows : List (List ℕ)) → Proper rows → Proper (slice from to rows)
-slice_proper from to rows a = all_back (take from (take to rows)) _ (rw (take-append-drop from (take to rows)) (all_take a to))
-
 row_places : (rows : List (List ℕ)) → Proper rows → ProperPlaces (map place_of rows)
 unfolding place_of
 row_places rows a = all_mapped place_of a
 
-module _ (p : ℕ) (w : List ℕ) (h : Ready p w) (at : PageNo) (kind : ℕ) (mark : Stamp) (rows : List (List ℕ)) (long : length rows ≡ 9) (n : ℕ) (least : 1 ≤ n) (most : n ≤ 8) where
-  part_few : (from to : ℕ) → to ≤ from + 8 → to ≤ 9 → length (map place_of (slice from to rows)) ≤ 8
-  part_few from to k m = rw (length-map, length-slice from to rows (omega arith)) (omega arith)
+module _ (p : ℕ) (w : List ℕ) (h : Ready p w) (at : PageNo) (kind : ℕ) (mark : Stamp) (rows : List (List ℕ)) (long : length rows ≡ 9) (n : ℕ) (least : 1 ≤ n) (most : n ≤ 8) (a : Proper rows)
+    (x : Page) (w₁ : List ℕ) (ex : x ≡ laid_page (page_with kind mark (take n rows))) (e₁ : w₁ ≡ with_struct w p at x) where
+  first_put : Wrote p w (put_page (store_of w).pages at (page_with kind mark (take n rows))) w₁
+  first_put = rw (e₁, ex) (page-put p w h at (page_with kind mark (take n rows)) (rw (length-map, length-take-le n rows (omega arith)) most) (row_places (take n rows) (all_take a n)))
 
-  part_proper : (from to : ℕ) → Proper rows → ProperPlaces (map place_of (slice from to rows))
-  part_proper from to a = row_places (slice from to rows) (slice_proper from to rows a)
+  pub first_room : 16 + 52 * p ≤ length w₁
+  first_room = room p w₁ first_put.ready
 
-  module _ (a : Proper rows) (x : Page) (w₁ : List ℕ) (ex : x ≡ laid_page (page_with kind mark (slice 0 n rows))) (e₁ : w₁ ≡ with_struct w p at x) where
-    first-put : Wrote p w (put_page (store_of w).pages at (page_with kind mark (slice 0 n rows))) w₁
-    first-put = rw (e₁, ex) (page-put p w h at (page_with kind mark (slice 0 n rows)) (part_few 0 n (omega arith) (omega arith)) (part_proper 0 n a))
-
-    pub first-room : 16 + 52 * p ≤ length w₁
-    first-room = room p w₁ first-put.ready
-
-    pub both_put : (q : PageNo) (y : Page) (w₂ : List ℕ) → q ≡ lowest_free (pages_of p (drop 16 w)) → y ≡ laid_page (page_with kind mark (slice n 9 rows)) → w₂ ≡ with_struct w₁ p q y
-        → InTwo p w at (page_with kind mark (slice 0 n rows)) (page_with kind mark (slice n 9 rows)) w₂ q
-    both_put q y w₂ free ey e₂ =
-        let second : Wrote p w₁ (put_page (store_of w₁).pages q (page_with kind mark (slice n 9 rows))) w₂ = rw (e₂, ey) (page-put p w₁ first-put.ready q (page_with kind mark (slice n 9 rows)) (part_few n 9 (omega arith) (omega arith)) (part_proper n 9 a)) in
-        record { pages = wrote_then first-put (rw (wrote_pages first-put) at second); free = free ∙ free_read p w h }
+  pub both_put : (q : PageNo) (y : Page) (w₂ : List ℕ) → q ≡ lowest_free (pages_of p (drop 16 w)) → y ≡ laid_page (page_with kind mark (take (9 - n) (drop n rows))) → w₂ ≡ with_struct w₁ p q y
+      → InTwo p w at (page_with kind mark (take n rows)) (page_with kind mark (drop n rows)) w₂ q
+  both_put q y w₂ free ey e₂ =
+      let whole : take (9 - n) (drop n rows) ≡ drop n rows = take_all (9 - n) (drop n rows) (rw (length-drop, long) (omega arith)) in
+      let few : length (map place_of (drop n rows)) ≤ 8 = rw (length-map, length-drop) (omega arith) in
+      let back : ProperPlaces (map place_of (drop n rows)) = row_places (drop n rows) (all_back (take n rows) _ (rw (take-append-drop n rows) a)) in
+      let second : Wrote p w₁ (put_page (store_of w₁).pages q (page_with kind mark (drop n rows))) w₂ = rw (e₂, ey, whole) (page-put p w₁ first_put.ready q (page_with kind mark (drop n rows)) few back) in
+      record { pages = wrote_then first_put (rw (wrote_pages first_put) at second); free = free ∙ free_read p w h }
 
 module _ (p : ℕ) (w : List ℕ) (h : Ready p w) (at : PageNo) (g : Page) (l : Laid g) (e : Entry) (b : ProperBox e.bounds) where
   abbrev es : List Entry
@@ -65,12 +59,12 @@ module _ (p : ℕ) (w : List ℕ) (h : Ready p w) (at : PageNo) (g : Page) (l : 
   es_proper : ProperPlaces es
   es_proper = all_append l.proper (more b none)
 
-  pub settle_whole : (x : Page) (w' : List ℕ) → g.count < 8 → x ≡ added g e → w' ≡ with_struct w p at x → Put p w (settled_in w at g e) w' Whole
+  pub settle_whole : (x : Page) (w' : List ℕ) → g.count < 8 → x ≡ added g e → w' ≡ with_struct w p at x → Put p w (settled_in w at g e) w' None
   unfolding settled
   settle_whole x w' k q y =
       let n = laid_count g l in
       let laid : x ≡ laid_page (with_places (contents g) es) = q ∙ ap (λ g. added g e) l.laid ∙ laid_added (contents g) (laid_few g l) e (omega arith) in
-      either (λ r. Put p w r w' Whole) (leb (length es) 8)
+      either (λ r. Put p w r w' None) (leb (length es) 8)
       (λ t. record { pages = rw (y, laid) (page-put p w h at (with_places (contents g) es) (omega (arith, es_length)) es_proper); answers = refl })
       (λ f. absurd (omega (arith, es_length, leb-false (length es) 8 f)))
 
@@ -86,9 +80,6 @@ module _ (p : ℕ) (w : List ℕ) (h : Ready p w) (at : PageNo) (g : Page) (l : 
     pub nine_proper : Proper rows
     nine_proper = places_proper rows (rw rows_back es_proper)
 
-    halves : Halved es (split its_box es)
-    halves = split_parted its_box es (omega (arith, es_length, laid_count g l, laid_few g l))
-
     rows_length : length rows ≡ 9
     rows_length = sym (length-map rows place_of) ∙ ap length rows_back ∙ omega (arith, es_length, laid_count g l, laid_few g l)
 
@@ -98,16 +89,16 @@ module _ (p : ℕ) (w : List ℕ) (h : Ready p w) (at : PageNo) (g : Page) (l : 
           let a : Proper ((split box_of rows).first ++ (split box_of rows).second) = all_reordered (Permᴰ.symm (split_parted box_of rows rows_length).order) nine_proper in
           rw (parts.front, parts.back, take-append-drop n out) at a
 
-      first_part : map place_of (slice 0 n out) ≡ (split its_box es).first
+      first_part : map place_of (take n out) ≡ (split its_box es).first
       first_part = rw (← parts.front, ← places_first rows, rows_back)
 
-      second_part : map place_of (slice n 9 out) ≡ (split its_box es).second
-      second_part = rw (take_all 9 out (omega arith), ← parts.back, ← places_second rows, rows_back)
+      second_part : map place_of (drop n out) ≡ (split its_box es).second
+      second_part = rw (← parts.back, ← places_second rows, rows_back)
 
-      pub settle_parted : (w' : List ℕ) (q : PageNo) → InTwo p w at (page_with g.kind g.mark (slice 0 n out)) (page_with g.kind g.mark (slice n 9 out)) w' q
-          → Put p w (settled_in w at g e) w' (Parted q)
+      pub settle_parted : (w' : List ℕ) (q : PageNo) → InTwo p w at (page_with g.kind g.mark (take n out)) (page_with g.kind g.mark (drop n out)) w' q
+          → Put p w (settled_in w at g e) w' (Some q)
       unfolding settled contents
       settle_parted w' q t =
-          either (λ r. Put p w r w' (Parted q)) (leb (length es) 8)
+          either (λ r. Put p w r w' (Some q)) (leb (length es) 8)
           (λ y. absurd (omega (arith, es_length, leb-true (length es) 8 y)))
           (λ y. rw (← t.free, ← first_part, ← second_part) (record { pages = t.pages; answers = refl }))

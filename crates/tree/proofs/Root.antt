@@ -16,8 +16,7 @@ use Rattle.rules.specs.laws.Header.{pages_there}
 use Rattle.page.specs.declared.Page.{Page}
 use Rattle.page.specs.Struct.{laid_page, with_struct, added}
 use Rattle.page.specs.Laws.{laid_added}
-use Rattle.tree.specs.declared.Written.{Written}
-use Rattle.tree.specs.declared.Written.TheVariants.{Whole, Parted}
+use Rattle.std.specs.Prelude.{Option, Some, None}
 use Rattle.tree.specs.Putting.{Ready, Put, Grown, with_tree, NewRoot, over_root, raised}
 use Rattle.tree.specs.Laws.{room, levels_read, root_read, free_read, child_proper, page-put, grown_from, wrote_grown}
 
@@ -63,12 +62,12 @@ module _ (p : ℕ) (w : List ℕ) (h : Ready p w) where
         rw (← new.free) (grown_from new.pages r (suc (store_of w).levels) w₃ e)
 
 -- ---- down from the root
-whole_grown : {p : ℕ} {w : List ℕ} (r : Result) {w₁ : List ℕ} {a : Written} → Put p w r w₁ a → a ≡ Whole → Grown p w (rooted (store_of w).root (store_of w).levels r) w₁
+whole_grown : {p : ℕ} {w : List ℕ} (r : Result) {w₁ : List ℕ} {a : Option PageNo} → Put p w r w₁ a → a ≡ None → Grown p w (rooted (store_of w).root (store_of w).levels r) w₁
 unfolding rooted
 whole_grown (whole ps) put k = wrote_grown put.pages
 whole_grown (parted ps q) put k = let z : ◌≡◌ {A = ℕ} 0 1 = cc put.answers in absurd (omega arith)
 
-parted_grown : {p : ℕ} {w : List ℕ} (r : Result) {w₁ : List ℕ} {a : Written} (q : PageNo) (w₂ : List ℕ) → Put p w r w₁ a → a ≡ Parted q → Grown p w₁ (raised (store_of w₁) q) w₂
+parted_grown : {p : ℕ} {w : List ℕ} (r : Result) {w₁ : List ℕ} {a : Option PageNo} (q : PageNo) (w₂ : List ℕ) → Put p w r w₁ a → a ≡ Some q → Grown p w₁ (raised (store_of w₁) q) w₂
     → Grown p w (rooted (store_of w).root (store_of w).levels r) w₂
 parted_grown (whole ps) q w₂ put k t = let z : ◌≡◌ {A = ℕ} 0 1 = cc put.answers in absurd (omega arith)
 parted_grown (parted ps q') q w₂ put k t =
@@ -87,17 +86,17 @@ module _ (w : List ℕ) (h : Ready (length (store_of w).pages) w) (p : ℕ) (cou
   all_pages : p ≡ length (store_of w).pages
   all_pages = counted ∙ rw h.written at (pages_there (store_of w))
 
-  module _ (e : Entry) (root : PageNo) (there : root ≡ page_no (get_or w 2 0)) (w₁ : List ℕ) (a : Written) (put : Put p w (put_below (levels - level) (store_of w).pages root e) w₁ a) where
+  module _ (e : Entry) (root : PageNo) (there : root ≡ page_no (get_or w 2 0)) (w₁ : List ℕ) (a : Option PageNo) (put : Put p w (put_below (levels - level) (store_of w).pages root e) w₁ a) where
     put_there : Put (length (store_of w).pages) w (put_below ((store_of w).levels - level) (store_of w).pages (store_of w).root e) w₁ a
     put_there = rw (all_pages, read ∙ levels_read _ w h, there ∙ root_read _ w h) at put
 
-    pub put_whole : a ≡ Whole → Grown (length (store_of w).pages) w (put_at level e (tree_of (store_of w))) w₁
+    pub put_whole : a ≡ None → Grown (length (store_of w).pages) w (put_at level e (tree_of (store_of w))) w₁
     unfolding put_at
     put_whole k = whole_grown _ put_there k
 
     pub levels_kept : (store_of w).levels < limit → (store_of w₁).levels < limit
     levels_kept k = rw put_there.pages.stored k
 
-    pub put_parted : (q : PageNo) (w₂ : List ℕ) → a ≡ Parted q → Grown p w₁ (raised (store_of w₁) q) w₂ → Grown (length (store_of w).pages) w (put_at level e (tree_of (store_of w))) w₂
+    pub put_parted : (q : PageNo) (w₂ : List ℕ) → a ≡ Some q → Grown p w₁ (raised (store_of w₁) q) w₂ → Grown (length (store_of w).pages) w (put_at level e (tree_of (store_of w))) w₂
     unfolding put_at
     put_parted q w₂ k t = parted_grown _ q w₂ put_there k (rw all_pages at t)

@@ -1,10 +1,10 @@
 -- What putting in asks of a store's words, what it leaves, and what it answers.
-use Rattle.std.specs.Prelude.{ℕ, ◌≤◌, ◌≡◌, List, [], ◌∷◌, ◌++◌, map, length}
+use Rattle.std.specs.Prelude.{ℕ, ◌≤◌, ◌≡◌, List, [], ◌∷◌, ◌++◌, Option, Some, None, map, length, get_or, set, unwrap_or}
 use Rattle.rules.specs.declared.Stamp.{Stamp}
 use Rattle.rules.specs.declared.PageNo.{PageNo}
 use Rattle.rules.specs.declared.Entry.{Entry}
 use Rattle.rules.specs.declared.Box.{Box}
-use Rattle.rules.specs.Store.{Page as Contents, Store, stamp, put_page, place_of, words, store_of}
+use Rattle.rules.specs.Store.{Page as Contents, Store, stamp, no_place, child_of, put_page, place_of, words, store_of}
 use Rattle.rules.specs.Tree.{whole, parted, pages_in, settled, lowest_free, its_box, choose, renewed, Tree, child_place, rooted}
 use Rattle.rules.specs.Tree.{Written as Result}
 use Rattle.rules.specs.Views.{ProperBox}
@@ -13,8 +13,6 @@ use Rattle.rules.specs.laws.Words.{Fits}
 use Rattle.rules.specs.laws.Parts.{with_pages}
 use Rattle.page.specs.declared.Page.{Page}
 use Rattle.page.specs.Struct.{contents, laid_page}
-use Rattle.tree.specs.declared.Written.{Written}
-use Rattle.tree.specs.declared.Written.TheVariants.{Whole, Parted}
 
 -- ---- what is asked for
 abbrev pub ProperPlaces : List Entry → Type 0
@@ -45,13 +43,13 @@ pub record InTwo (p : ℕ) (w : List ℕ) (at : PageNo) (first second : Contents
   pub pages : Wrote p w (put_page (put_page (store_of w).pages at first) q second) w'
   pub free : q ≡ lowest_free (store_of w).pages
 
--- the answer in code to what the rules say has been written
-abbrev pub answer : Result → Written
-answer (whole ps) = Whole
-answer (parted ps q) = Parted q
+-- the answer in code to what the rules say has been written: the page with the second part, where the page was split
+abbrev pub answer : Result → Option PageNo
+answer (whole ps) = None
+answer (parted ps q) = Some q
 
 -- the pages are as the rules say, and so is the answer
-pub record Put (p : ℕ) (w : List ℕ) (r : Result) (w' : List ℕ) (a : Written) : Type 0 where
+pub record Put (p : ℕ) (w : List ℕ) (r : Result) (w' : List ℕ) (a : Option PageNo) : Type 0 where
   pub pages : Wrote p w (pages_in r) w'
   pub answers : a ≡ answer r
 
@@ -64,20 +62,29 @@ settled_in w at g e = settled (store_of w).pages at (contents g) ((contents g).p
 abbrev pub page_with : ℕ → Stamp → List (List ℕ) → Contents
 page_with kind mark rows = record { kind = kind; mark = mark; places = map place_of rows }
 
--- the place that takes a new box best; where there is none, 8, past every place
-abbrev pub picked : Box → List Entry → ℕ
-picked new [] = 8
-picked new (e ∷ es) = choose its_box new (e ∷ es)
+-- the place that takes a new box best, where there is one
+abbrev pub picked : Box → List Entry → Option ℕ
+picked new [] = None
+picked new (e ∷ es) = Some (choose its_box new (e ∷ es))
 
 -- what the rules say has been written, from the answer in code and the pages
-abbrev pub result : Written → List Contents → Result
-result Whole ps = whole ps
-result (Parted q) ps = parted ps q
+abbrev pub result : Option PageNo → List Contents → Result
+result None ps = whole ps
+result (Some q) ps = parted ps q
+
+-- the child page in place i; none is the place behind the last, which is read as no place
+abbrev pub child_in : List Entry → Option ℕ → PageNo
+child_in es i = child_of (get_or es (unwrap_or i (length es)) no_place)
+
+-- the places with e in place i; none is the place behind the last, where nothing is set
+abbrev pub with_entry : List Entry → Option ℕ → Entry → List Entry
+with_entry es i e = set es (unwrap_or i (length es)) e
 
 -- page `at`, read as g, once its child c, in place i, has been written
-abbrev pub renewed_in : List ℕ → PageNo → Page → ℕ → PageNo → Written → Result
+abbrev pub renewed_in : List ℕ → PageNo → Page → Option ℕ → PageNo → Option PageNo → Result
 renewed_in w at g i c below =
-    settled (store_of w).pages at (contents g) (renewed (contents g).places i c (result below (store_of w).pages))
+    let es = (contents g).places in
+    settled (store_of w).pages at (contents g) (renewed es (unwrap_or i (length es)) c (result below (store_of w).pages))
 
 -- ---- the whole tree
 -- the store with another tree

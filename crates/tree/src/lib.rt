@@ -1,176 +1,179 @@
 // Putting an entry or a child page into the tree at its level, and splitting the pages that overflow on the way.
 #![tactic(auto)]
 
-ghost use Rattle.std.specs.Prelude.{◌≡◌, [], ◌∷◌, ◌++◌, map, ◌+◌, ◌≤◌, ◌<◌, length};
-ghost use Rattle.std.proofs.Math.Seq.{slice};
+ghost use Rattle.std.specs.Prelude.{◌≡◌, [], ◌∷◌, ◌++◌, map, ◌+◌, ◌≤◌, ◌<◌, length, take, drop, Some, IfSome};
 ghost use Rattle.rules.specs.Store as rules;
 ghost use Rattle.rules.specs.Tree as tree;
+ghost use Rattle.rules.specs.Tree.{with_places};
 ghost use Rattle.rules.specs.Views.{ProperBox};
 ghost use Rattle.page.specs.Struct.{contents, laid_page};
 ghost use Rattle.split.specs.Split.{Proper};
-ghost use Rattle.tree.specs.Putting.{Ready, Laid, InTwo, Put, settled_in, page_with, picked, renewed_in, over_root, NewRoot, raised, Grown};
+ghost use Rattle.tree.specs.Putting.{Ready, Laid, InTwo, Put, settled_in, page_with, picked, child_in, with_entry, renewed_in, over_root, NewRoot, raised, Grown};
 
 use page::Page;
+use rules::kind::Kind;
+use rules::part::Part;
 use rules::{Box, Entry, PageNo, Stamp};
-
-// What became of a page: it holds all that it was given, or its second part stands in another page.
-#[derive(Clone, Copy)]
-pub enum Written {
-    Whole,
-    Parted(PageNo),
-}
 
 // ---- places as rows of six words, as splitting takes them
 
-fn row_of(e: Entry) -> [u32; 6]
-    ensures { result ≡ rules.place_words e }
-{
-    let b = e.bounds;
-    let stamp = e.stamp;
-    [b.x0, b.y0, b.x1, b.y1, e.key, stamp.0]
-}
-
-fn place_of(row: [u32; 6]) -> Entry
-    ensures { result ≡ rules.place_of row }
-{
-    Entry {
-        bounds: Box {
-            x0: row[0],
-            y0: row[1],
-            x1: row[2],
-            y1: row[3],
-        },
-        key: row[4],
-        stamp: Stamp(row[5]),
-    }
-}
-
 // The eight places of a full page and the new one last.
+#[tactic(auto, using(crate::proofs::Rows::nine_turn))]
 fn nine(g: Page, e: Entry) -> [[u32; 6]; 9]
     ensures { result ≡ map rules.place_words (g.places ++ (e ∷ [])) }
 {
-    let mut rows = [row_of(e); 9];
-    let mut i = 0;
-    while i < 8 {
-        rows[i] = row_of(g.places[i]);
-        i += 1;
+    let mut rows = [[0; 6]; 9];
+    for (i, place) in g.places.iter().enumerate() {
+        place.write(&mut rows[i]);
     }
+    e.write(&mut rows[8]);
     rows
 }
 
-// The page whose places are the rows from `from` up to `to`, added one by one to an empty page.
-fn part(rows: [[u32; 6]; 9], from: usize, to: usize, kind: u32, mark: Stamp) -> Page
-    requires { (from ≤ to) × (to ≤ 9) × (to ≤ from + 8) }
-    ensures { result ≡ laid_page (page_with kind mark (slice from to rows)) }
+// The page whose places are these rows, added one by one to an empty page.
+#[tactic(auto, using(crate::proofs::Rows::part_start, crate::proofs::Rows::part_turn))]
+fn part(rows: &[[u32; 6]], kind: u32, mark: Stamp) -> Page
+    requires { length rows.now ≤ 8 }
+    ensures { result ≡ laid_page (page_with kind mark rows.now) }
 {
-    let mut g = page::empty_page();
-    g.kind = kind;
-    g.mark = mark;
-    let mut i = from;
-    while i < to {
-        let next = page::add_place(g, place_of(rows[i]));
-        g = next;
-        i += 1;
+    let mut g = Page {
+        kind,
+        mark,
+        ..page::empty_page()
+    };
+    for row in rows {
+        g = page::add_place(g, Entry::read(row));
     }
     g
 }
 
 // ---- one page
 
-// The first n rows stay in page `at`; the others go to the lowest free page, of the same kind and with the same mark.
+// The first n rows stay in page `at`, read as g; the others go to the lowest free page, of the same kind and with the same mark.
+#[tactic(auto, using(crate::specs::Laws::room, crate::proofs::OnePage::first_room))]
 fn put_parts(
     store: &mut [u32],
     p: usize,
     at: PageNo,
-    kind: u32,
-    mark: Stamp,
+    g: Page,
     rows: [[u32; 6]; 9],
     n: usize,
 ) -> PageNo
     requires { Ready p store.old × Proper rows × (1 ≤ n) × (n ≤ 8) }
-    ensures { InTwo p store.old at (page_with kind mark (slice 0 n rows)) (page_with kind mark (slice n 9 rows)) store.new result }
+    ensures { InTwo p store.old at (page_with g.kind g.mark (take n rows)) (page_with g.kind g.mark (drop n rows)) store.new result }
 {
     let q = page::lowest_free(store, p);
-    page::put_page(store, p, at, part(rows, 0, n, kind, mark));
-    page::put_page(store, p, q, part(rows, n, 9, kind, mark));
+    page::put_page(store, p, at, part(&rows[..n], g.kind, g.mark));
+    page::put_page(store, p, q, part(&rows[n..], g.kind, g.mark));
     q
 }
 
 // Splits page `at`, which is read as g and full, by one place more.
+#[tactic(auto, using(crate::proofs::OnePage::nine_proper, crate::proofs::OnePage::parts_proper))]
 fn split_page(store: &mut [u32], p: usize, at: PageNo, g: Page, e: Entry) -> PageNo
     requires { Ready p store.old × Laid g × ProperBox e.bounds × (8 ≤ g.count) }
-    ensures { Put p store.old (settled_in store.old at g e) store.new (Written.Parted result) }
+    ensures { Put p store.old (settled_in store.old at g e) store.new (Some result) }
 {
     let rows = nine(g, e);
     let cut = split::winner(rows);
     let parts = split::ordered(rows, cut);
-    put_parts(store, p, at, g.kind, g.mark, parts, cut.first)
+    put_parts(store, p, at, g, parts, cut.first)
 }
 
-// Page `at`, read as g, gets one place more, behind the used ones; where there is no room it is split.
-fn settle(store: &mut [u32], p: usize, at: PageNo, g: Page, e: Entry) -> Written
+// Page `at`, read as g, gets one place more, behind the used ones; where there is no room it is split, and the answer is the page with
+// the second part.
+#[tactic(auto, using(crate::specs::Laws::room))]
+fn settle(store: &mut [u32], p: usize, at: PageNo, g: Page, e: Entry) -> Option<PageNo>
     requires { Ready p store.old × Laid g × ProperBox e.bounds }
     ensures { Put p store.old (settled_in store.old at g e) store.new result }
 {
     if g.count < 8 {
         page::put_page(store, p, at, page::add_place(g, e));
-        return Written::Whole;
+        None
+    } else {
+        Some(split_page(store, p, at, g, e))
     }
-    Written::Parted(split_page(store, p, at, g, e))
 }
 
 // ---- from page to child
 
 // The place of page `at` in its parent, with the box that covers the page's places as they are now.
+#[tactic(auto, using(crate::specs::Laws::room, crate::proofs::Below::child_made))]
 pub fn child_place(store: &[u32], p: usize, at: PageNo) -> Entry
     requires { Ready p store.now }
     ensures { result ≡ tree.child_place (rules.store_of store.now).pages at }
 {
-    let bounds = page::cover_page(page::page_at(store, p, at));
     Entry {
-        bounds,
+        bounds: page::cover_page(page::page_at(store, p, at)),
         key: at.0,
         stamp: Stamp(0),
     }
 }
 
-// The place of g that takes the new box best; in a page with no places 8, where none can stand.
-fn pick(g: Page, new: Box) -> usize
+// The place of g that takes the new box best; a page with no places has none.
+#[tactic(auto, using(crate::proofs::Below::count_most, crate::proofs::Below::pick_none, crate::proofs::Below::pick_one))]
+fn pick(g: Page, new: Box) -> Option<usize>
     requires { Laid g }
     ensures { result ≡ picked new (contents g).places }
 {
     if g.count == 0 {
-        return 8;
+        None
+    } else {
+        Some(split::choose(g.places, g.count as usize, new))
     }
-    let places = g.places;
-    split::choose(places, g.count as usize, new)
+}
+
+// The child page in place i of g; where there is none page 0, as the rules read it.
+#[tactic(auto, using(crate::proofs::Below::one_child, crate::proofs::Below::none_child))]
+fn child_in(g: Page, i: Option<usize>) -> PageNo
+    requires { Laid g × IfSome i (λ i. i < length (contents g).places) }
+    ensures { result ≡ child_in (contents g).places i }
+{
+    match i {
+        Some(i) => PageNo(page::place_at(g, i).key),
+        None => PageNo(0),
+    }
+}
+
+// g with this entry in place i; where there is none, g as it is.
+#[tactic(auto, using(crate::proofs::Below::one_set, crate::proofs::Below::none_set))]
+fn with_child(g: Page, i: Option<usize>, e: Entry) -> Page
+    requires { Laid g × IfSome i (λ i. i < length (contents g).places) }
+    ensures { result ≡ laid_page (with_places (contents g) (with_entry (contents g).places i e)) }
+{
+    match i {
+        Some(i) => page::set_place(g, i, e),
+        None => g,
+    }
 }
 
 // Page `at`, read as g, once its child c, in place i, has been written: the box made anew, and a second part added last.
+#[tactic(auto, using(crate::specs::Laws::room))]
 fn renew(
     store: &mut [u32],
     p: usize,
     at: PageNo,
     g: Page,
-    i: usize,
+    i: Option<usize>,
     c: PageNo,
-    below: Written,
-) -> Written
-    requires { Ready p store.old × Laid g × (i < 8 → i < length (contents g).places) }
+    below: Option<PageNo>,
+) -> Option<PageNo>
+    requires { Ready p store.old × Laid g × IfSome i (λ i. i < length (contents g).places) }
     ensures { Put p store.old (renewed_in store.old at g i c below) store.new result }
 {
-    let h = page::set_place(g, i, child_place(store, p, c));
+    let h = with_child(g, i, child_place(store, p, c));
     match below {
-        Written::Whole => {
+        Some(q) => settle(store, p, at, h, child_place(store, p, q)),
+        None => {
             page::put_page(store, p, at, h);
-            Written::Whole
+            None
         }
-        Written::Parted(q) => settle(store, p, at, h, child_place(store, p, q)),
     }
 }
 
 // Puts e into a page `depth` levels below page `at`: it calls itself for the child whose box takes e best.
-fn put_below(store: &mut [u32], p: usize, depth: u32, at: PageNo, e: Entry) -> Written
+#[tactic(auto, using(crate::specs::Laws::room))]
+fn put_below(store: &mut [u32], p: usize, depth: u32, at: PageNo, e: Entry) -> Option<PageNo>
     requires { Ready p store.old × ProperBox e.bounds }
     ensures { Put p store.old (tree.put_below depth (rules.store_of store.old).pages at e) store.new result }
 {
@@ -179,8 +182,7 @@ fn put_below(store: &mut [u32], p: usize, depth: u32, at: PageNo, e: Entry) -> W
         return settle(store, p, at, g, e);
     }
     let i = pick(g, e.bounds);
-    let place = page::place_at(g, i);
-    let child = PageNo(place.key);
+    let child = child_in(g, i);
     let below = put_below(store, p, depth - 1, child, e);
     renew(store, p, at, g, i, child, below)
 }
@@ -192,13 +194,16 @@ fn root_over(store: &[u32], p: usize, root: PageNo, q: PageNo) -> Page
     requires { Ready p store.now }
     ensures { result ≡ laid_page (over_root (rules.store_of store.now).pages root q) }
 {
-    let mut g = page::empty_page();
-    g.kind = 2;
-    let one = page::add_place(g, child_place(store, p, root));
+    let empty = Page {
+        kind: Kind::Inner as u32,
+        ..page::empty_page()
+    };
+    let one = page::add_place(empty, child_place(store, p, root));
     page::add_place(one, child_place(store, p, q))
 }
 
 // Writes that page over the store's root, whose second part stands in page q, into the lowest free page left.
+#[tactic(auto, using(crate::specs::Laws::room, crate::specs::Laws::header_room))]
 fn new_root(store: &mut [u32], p: usize, q: PageNo) -> PageNo
     requires { Ready p store.old }
     ensures { NewRoot p store.old q store.new result }
@@ -210,6 +215,7 @@ fn new_root(store: &mut [u32], p: usize, q: PageNo) -> PageNo
 }
 
 // The tree gets a new root, and so one level more.
+#[tactic(auto, using(crate::specs::Laws::header_room, crate::proofs::Root::levels_fit, crate::proofs::Root::raise_room, crate::proofs::Root::raise_room_2))]
 fn raise(store: &mut [u32], p: usize, q: PageNo)
     requires { Ready p store.old × ((rules.store_of store.old).levels < rules.limit) }
     ensures { Grown p store.old (raised (rules.store_of store.old) q) store.new }
@@ -221,6 +227,7 @@ fn raise(store: &mut [u32], p: usize, q: PageNo)
 }
 
 // Puts e, an entry or a child page's place, into a page at this level; leaves stand at level 1.
+#[tactic(auto, using(crate::specs::Laws::header_room, crate::specs::Laws::ready_count, crate::proofs::Root::levels_kept))]
 pub fn put_at(store: &mut [u32], level: u32, e: Entry)
     requires ready { Ready (length (rules.store_of store.old).pages) store.old × ProperBox e.bounds }
     requires level_bound { (level ≤ (rules.store_of store.old).levels) × ((rules.store_of store.old).levels < rules.limit) }
@@ -229,8 +236,7 @@ pub fn put_at(store: &mut [u32], level: u32, e: Entry)
     let p = header::pages(store);
     let root = header::root(store);
     let depth = header::levels(store) - level;
-    let Written::Parted(q) = put_below(store, p, depth, root, e) else {
-        return;
-    };
-    raise(store, p, q);
+    if let Some(q) = put_below(store, p, depth, root, e) {
+        raise(store, p, q);
+    }
 }
