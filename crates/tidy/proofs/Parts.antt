@@ -1,165 +1,122 @@
--- What each way out of a part's tests says of the part. Assumes nothing.
-use Prim.Native.Nat.{ℕ, ◌+◌, ◌*◌, ◌-◌, ◌≤◌, ◌<◌, min}
-use native.Mathlib.Omega.{arith}
-use native.Mathlib.Nat.{min-eq_right}
-use mathlib.Core.Path.{◌≡◌, sym, ◌∙◌, ap}
-use mathlib.Core.Bool.{Bool, true, false, ◌&&◌, and-true, and-false, not}
-use mathlib.Core.List.{List}
-use lib.Dec.{eqb, ltb}
-use lib.ListN.{length, get_or, take, drop, length-map, length-drop}
-use lib.Seq.{get_or-take, get_or-drop, drop-drop, take_all}
-use borrow.Author.Tests.{ne_eqb, eq-eqb, le-leb, lt-leb, lt-ltb, le-ltb, leb-true, not-true, not-false}
-use Rattle.rules.specs.Lists.{all_of, every, same_words, from}
-use Rattle.rules.specs.Store.{no_place, place_of, page_words, page_of, board_words, board_of, window_of, window_words}
-use Rattle.rules.specs.Sound.{page_in_range, board_in_range}
+-- What a page's and a board's words are held to, test by test. Assumes nothing.
+use Rattle.std.proofs.Common.{ℕ, zero, suc, ◌+◌, ◌*◌, ◌-◌, ◌/◌, ◌^◌, ◌≤◌, ◌<◌, arith, ◌≡◌, refl, sym, ◌∙◌, Bool, true, false, not, ◌&&◌, ◌||◌, cond, List, eqb, leb, ltb, length, get_or, take, drop, add-zero, get_or-drop, mul-suc, length-drop, drop-drop}
+use Rattle.std.proofs.lemmas.List.{take_rest, take-take, drop-take}
+use Rattle.std.proofs.Math.Bool.{and-true}
+use Rattle.std.proofs.lemmas.Bool.{leb-true, le-leb}
+use Rattle.std.proofs.lemmas.Bool.Decides.{nat_tests}
+use Rattle.std.proofs.Math.Nat.{mul-div_cancel_left, min-eq_right}
+use Rattle.std.proofs.Math.ListN.{length-map}
+use Rattle.std.specs.Simd.{first_chunks}
+use Rattle.std.proofs.lemmas.List.Folds.{list_all-map}
+use Rattle.std.specs.List.{list_all}
+use Rattle.rules.specs.Lists.{all_of, every, same_words, cut, from}
+use Rattle.rules.specs.Store.{page_words, page_of, board_words, board_of, place_of, window_of, window_words, store_of, limit}
+use Rattle.rules.specs.Sound.{header_in_range, page_in_range, board_in_range}
+use Rattle.rules.specs.laws.Places.{cut-length, take-cut}
 use Rattle.rules.specs.laws.Tests.{each}
-use Rattle.rules.specs.laws.Places.{cut-length, parts_at}
-use Rattle.tidy.specs.Tidy.{is_zero, page_tidy, board_tidy, inner_place, FewPlaces}
-use Rattle.tidy.specs.Passes.{Passed, passes, fails, all_passed}
-use Rattle.tidy.specs.Laws.{page_same, board_same, words-from}
-
--- ---- zeros, word by word
-module _ (ws : List ℕ) (i : ℕ) (so_far : Passed is_zero ws i) where
-  pub zero_here : i < length ws → get_or ws i 0 ≡ 0 → Passed is_zero ws (i + 1)
-  zero_here h e = passes is_zero ws i so_far 0 h (eq-eqb _ 0 e)
-
-  pub other_here : i < length ws → (get_or ws i 0 ≡ 0 → ⊥) → false ≡ every is_zero ws
-  other_here h e = fails is_zero ws i so_far 0 h (ne_eqb _ 0 e)
-
-  pub zero_throughout : length ws ≤ i → true ≡ every is_zero ws
-  zero_throughout h = all_passed is_zero ws i so_far h
+use Rattle.tidy.specs.Tidy.{is_zero, FewPlaces, inner_place, Laid, tidy, memo_tidy, slots_tidy, pages_tidy, memo_part_tidy, boards_tidy}
+use Rattle.tidy.specs.Laws.{page_same, board_same, words-from, memo_so, pages_many, tidy-parts}
 
 -- the part of a slice from word a on
 abbrev pub behind : List ℕ → ℕ → List ℕ
 behind v a = take (length v - a) (drop a v)
 
-pub behind_all : (v : List ℕ) (a : ℕ) → behind v a ≡ drop a v
-behind_all v a = take_all (length v - a) (drop a v) (simp length-drop (omega arith))
+guarded : (t a b : Bool) → (t ≡ true → a ≡ b) → (t && a) ≡ (t && b)
+guarded true a b h = h refl
+guarded false a b h = refl
 
 -- ---- a page's words
-module _ (v : List ℕ) (long : length v ≡ 52) (n : ℕ) (count : n ≡ get_or v 1 0) where
-  pub page_over : 8 < n → false ≡ same_words (page_words (page_of v)) v
-  unfolding all_of
-  page_over h = sym (page_same v long ∙ rw (lt-leb (get_or v 1 0) 8 (omega arith)))
+pub page_padded_so : (v : List ℕ) → length v ≡ 52
+    → same_words (page_words (page_of v)) v ≡ (leb (get_or v 1 0) 8 && (eqb (get_or v 3 0) 0 && every is_zero (behind v (4 + 6 * get_or v 1 0))))
+unfolding all_of
+page_padded_so v long =
+    rw (page_same v long) (guarded (leb (get_or v 1 0) 8) _ _ λ t. rw (min-eq_right (leb-true _ 8 t), take_rest v (4 + 6 * get_or v 1 0), and-true))
 
-  pub page_word_3 : n ≤ 8 → (get_or v 3 0 ≡ 0 → ⊥) → false ≡ same_words (page_words (page_of v)) v
-  unfolding all_of
-  page_word_3 h e = sym (page_same v long ∙ rw (le-leb (get_or v 1 0) 8 (omega arith), ne_eqb (get_or v 3 0) 0 e))
+pub page_behind : (v : List ℕ) → length v ≡ 52 → get_or v 1 0 ≤ 8 → get_or v 3 0 ≡ 0 → same_words (page_words (page_of v)) v ≡ every is_zero (behind v (4 + 6 * get_or v 1 0))
+page_behind v long few word_3 = rw (page_padded_so v long, le-leb (get_or v 1 0) 8 few, word_3)
 
-  pub page-behind : (r : Bool) → n ≤ 8 → get_or v 3 0 ≡ 0 → r ≡ every is_zero (behind v (4 + 6 * n)) → r ≡ same_words (page_words (page_of v)) v
-  unfolding all_of
-  page-behind r h e q =
-      let few : get_or v 1 0 ≤ 8 = omega arith in
-      q ∙ ap (every is_zero) (behind_all v (4 + 6 * n)) ∙ sym (page_same v long ∙ rw (le-leb (get_or v 1 0) 8 few, eq-eqb (get_or v 3 0) 0 e, min-eq_right few, ← count, and-true))
-
-pub page_few : (v : List ℕ) (r : Bool) → length v ≡ 52 → r ≡ same_words (page_words (page_of v)) v → not r ≡ false → FewPlaces v
-page_few v r long e t = record { long = long; few = leb-true _ 8 (each _ (sym (page_same v long) ∙ sym e ∙ not-false r t)).0 }
-
-module _ (v : List ℕ) (p : ℕ) (r : Bool) (its : r ≡ same_words (page_words (page_of v)) v) where
-  pub page_unpadded : not r ≡ true → false ≡ page_tidy p v
-  unfolding page_tidy
-  page_unpadded e = rw (← its, not-true r e)
-
-  pub page_so : (q : Bool) → not r ≡ false → q ≡ page_in_range p (page_of v) → q ≡ page_tidy p v
-  unfolding page_tidy
-  page_so q e f = rw (← its, not-false r e) f
+pub page_few : (v : List ℕ) → length v ≡ 52 → same_words (page_words (page_of v)) v ≡ true → FewPlaces v
+page_few v long e = record { long = long; few = leb-true _ 8 (each _ (sym (page_same v long) ∙ e)).0 }
 
 places_many : (v : List ℕ) → get_or v 1 0 ≤ 8 → length (page_of v).places ≡ get_or v 1 0
 unfolding page_of
 places_many v h = rw (length-map, cut-length, min-eq_right h)
 
-module _ (v : List ℕ) (p : ℕ) (few : get_or v 1 0 ≤ 8) where
-  pub page_inner : (r : Bool) → get_or v 0 0 ≡ 2 → r ≡ every (inner_place p) (page_of v).places → r ≡ page_in_range p (page_of v)
-  unfolding page_of page_in_range all_of
-  page_inner r e q = q ∙ rw (e, places_many v few, le-leb (get_or v 1 0) 8 few, and-true)
+kinds : (k c m : ℕ) (e : Bool) → (leb k 2 && ((not (eqb k 0) || (eqb m 0 && eqb c 0)) && ((not (eqb k 2) || e) && true))) ≡ cond (eqb k 0) (eqb c 0 && eqb m 0) (eqb k 1 || (eqb k 2 && e))
+kinds k c m e = grind (arith, nat_tests)
 
-  pub page_leaf : get_or v 0 0 ≡ 1 → true ≡ page_in_range p (page_of v)
-  unfolding page_of page_in_range all_of
-  page_leaf e = rw (e, places_many v few, le-leb (get_or v 1 0) 8 few)
+pub page_range_so : (p : ℕ) (v : List ℕ) → FewPlaces v
+    → page_in_range p (page_of v)
+    ≡ cond (eqb (get_or v 0 0) 0) (eqb (get_or v 1 0) 0 && eqb (get_or v 2 0) 0) (eqb (get_or v 0 0) 1 || (eqb (get_or v 0 0) 2 && every (inner_place p) (page_of v).places))
+unfolding page_of page_in_range all_of
+page_range_so p v given = rw (places_many v given.few, le-leb (get_or v 1 0) 8 given.few) (kinds (get_or v 0 0) (get_or v 1 0) (get_or v 2 0) (every (inner_place p) (page_of v).places))
 
-  pub page_other : (get_or v 0 0 ≡ 2 → ⊥) → (get_or v 0 0 ≡ 1 → ⊥) → (get_or v 0 0 ≡ 0 → ⊥) → false ≡ page_in_range p (page_of v)
-  unfolding page_of page_in_range all_of
-  page_other a b c = rw (lt-leb (get_or v 0 0) 2 (omega arith))
-
-  pub page_unfree : get_or v 0 0 ≡ 0 → (get_or v 1 0 ≡ 0 → ⊥) → false ≡ page_in_range p (page_of v)
-  unfolding page_of page_in_range all_of
-  page_unfree e f = rw (e, places_many v few, le-leb (get_or v 1 0) 8 few, ne_eqb (get_or v 1 0) 0 f, and-false)
-
-  pub page_free : get_or v 0 0 ≡ 0 → get_or v 1 0 ≡ 0 → eqb (get_or v 2 0) 0 ≡ page_in_range p (page_of v)
-  unfolding page_of page_in_range all_of
-  page_free e f = rw (e, places_many v few, f, and-true, and-true)
-
--- ---- an inner page's places, one by one
-module _ (v : List ℕ) (p i : ℕ) (given : FewPlaces v) where
-  word : (j : ℕ) → j < 6 → get_or (take 6 (drop (6 * i) (drop 4 v))) j 0 ≡ get_or v (4 + 6 * i + j) 0
-  word j h = get_or-take 6 (drop (6 * i) (drop 4 v)) j 0 h ∙ ap (λ l. get_or l j 0) (drop-drop (6 * i) 4 v) ∙ get_or-drop (4 + 6 * i) v j 0
-
-  this : i < get_or v 1 0 → inner_place p (get_or (page_of v).places i no_place) ≡ (ltb (get_or v (8 + 6 * i) 0) p && eqb (get_or v (9 + 6 * i) 0) 0)
-  unfolding page_of place_of
-  this h =
-      let a : 4 + 6 * i + 4 ≡ 8 + 6 * i = omega arith in
-      let b : 4 + 6 * i + 5 ≡ 9 + 6 * i = omega arith in
-      rw (parts_at place_of (min 8 (get_or v 1 0)) 6 (drop 4 v) i no_place (rw (min-eq_right given.few) h), word 4 (omega arith), word 5 (omega arith), a, b)
-
-  pub no_child : (child : ℕ) → i < get_or v 1 0 → child ≡ get_or v (8 + 6 * i) 0 → p ≤ child → false ≡ inner_place p (get_or (page_of v).places i no_place)
-  no_child child h e k = sym (this h ∙ rw (le-ltb (get_or v (8 + 6 * i) 0) p (omega arith)))
-
-  pub a_child : (child : ℕ) → i < get_or v 1 0 → child ≡ get_or v (8 + 6 * i) 0 → child < p → eqb (get_or v (9 + 6 * i) 0) 0 ≡ inner_place p (get_or (page_of v).places i no_place)
-  a_child child h e k = sym (this h ∙ rw (lt-ltb (get_or v (8 + 6 * i) 0) p (omega arith)))
-
-  module _ (so_far : Passed (inner_place p) (page_of v).places i) (n : ℕ) (count : n ≡ get_or v 1 0) where
-    pub inner_here : (r : Bool) → i < n → r ≡ inner_place p (get_or (page_of v).places i no_place) → not r ≡ false → Passed (inner_place p) (page_of v).places (i + 1)
-    inner_here r h e t =
-        passes (inner_place p) (page_of v).places i so_far no_place (rw (places_many v given.few) (omega arith)) (sym e ∙ not-false r t)
-
-    pub inner_not : (r : Bool) → i < n → r ≡ inner_place p (get_or (page_of v).places i no_place) → not r ≡ true → false ≡ every (inner_place p) (page_of v).places
-    inner_not r h e t =
-        fails (inner_place p) (page_of v).places i so_far no_place (rw (places_many v given.few) (omega arith)) (sym e ∙ not-true r t)
-
-    pub inner_all : n ≤ i → true ≡ every (inner_place p) (page_of v).places
-    inner_all h = all_passed (inner_place p) (page_of v).places i so_far (rw (places_many v given.few) (omega arith))
+pub inner_places_so : (p : ℕ) (v : List ℕ) → FewPlaces v
+    → every (inner_place p) (page_of v).places ≡ list_all (λ place. inner_place p (place_of place)) (take (get_or v 1 0) (first_chunks 6 (length (behind v 4) / 6) (behind v 4)))
+unfolding page_of
+inner_places_so p v given =
+    let long : length (drop 4 v) ≡ 48 = simp length-drop (omega arith) in
+    rw (list_all-map, take_rest v 4, long, take-cut (get_or v 1 0) 8 6 (drop 4 v) given.few, min-eq_right given.few)
 
 -- ---- a board's words
-module _ (v : List ℕ) (long : length v ≡ 86) (n : ℕ) (count : n ≡ get_or v 5 0) where
-  pub board_over : 16 < n → false ≡ same_words (board_words (board_of v)) v
-  unfolding all_of
-  board_over h = sym (board_same v long ∙ rw (lt-leb (get_or v 5 0) 16 (omega arith)))
+pub board_padded_so : (v : List ℕ) → length v ≡ 86
+    → same_words (board_words (board_of v)) v ≡ (leb (get_or v 5 0) 16 && every is_zero (behind v (6 + 5 * get_or v 5 0)))
+unfolding all_of
+board_padded_so v long =
+    rw (board_same v long) (guarded (leb (get_or v 5 0) 16) _ _ λ t. rw (min-eq_right (leb-true _ 16 t), take_rest v (6 + 5 * get_or v 5 0), and-true))
 
-  pub board_behind : (r : Bool) → n ≤ 16 → r ≡ every is_zero (behind v (6 + 5 * n)) → r ≡ same_words (board_words (board_of v)) v
-  unfolding all_of
-  board_behind r h q =
-      let few : get_or v 5 0 ≤ 16 = omega arith in
-      q ∙ ap (every is_zero) (behind_all v (6 + 5 * n)) ∙ sym (board_same v long ∙ rw (le-leb (get_or v 5 0) 16 few, min-eq_right few, ← count, and-true))
-
-pub board_few : (v : List ℕ) (r : Bool) → length v ≡ 86 → r ≡ same_words (board_words (board_of v)) v → not r ≡ false → get_or v 5 0 ≤ 16
-board_few v r long e t = leb-true _ 16 (each _ (sym (board_same v long) ∙ sym e ∙ not-false r t)).0
-
-module _ (v : List ℕ) (r : Bool) (its : r ≡ same_words (board_words (board_of v)) v) where
-  pub board_unpadded : not r ≡ true → false ≡ board_tidy v
-  unfolding board_tidy
-  board_unpadded e = rw (← its, not-true r e)
-
-  pub board_so : (q : Bool) → not r ≡ false → q ≡ board_in_range (board_of v) → q ≡ board_tidy v
-  unfolding board_tidy
-  board_so q e f = rw (← its, not-false r e) f
+pub board_few : (v : List ℕ) → length v ≡ 86 → same_words (board_words (board_of v)) v ≡ true → get_or v 5 0 ≤ 16
+board_few v long e = leb-true _ 16 (each _ (sym (board_same v long) ∙ e)).0
 
 rows_many : (v : List ℕ) → get_or v 5 0 ≤ 16 → length (board_of v).rows ≡ get_or v 5 0
 unfolding board_of
 rows_many v h = rw (length-map, cut-length, min-eq_right h)
 
-module _ (v : List ℕ) (few : get_or v 5 0 ≤ 16) where
-  pub board_open : get_or v 4 0 ≡ 1 → true ≡ board_in_range (board_of v)
-  unfolding board_of board_in_range all_of
-  board_open e = rw (e, rows_many v few, le-leb (get_or v 5 0) 16 few)
+open_or_shut : (k c : ℕ) (a b d e : Bool) → (leb k 1 && (eqb k 1 || (a && (b && (d && (e && true))) && eqb c 0))) ≡ (eqb k 1 || (eqb k 0 && (eqb c 0 && (a && (b && (d && (e && true)))))))
+open_or_shut k c a b d e = grind (arith, nat_tests)
 
-  pub board_other : (get_or v 4 0 ≡ 1 → ⊥) → (get_or v 4 0 ≡ 0 → ⊥) → false ≡ board_in_range (board_of v)
-  unfolding board_of board_in_range all_of
-  board_other a b = rw (lt-leb (get_or v 4 0) 1 (omega arith))
+pub board_range_so : (v : List ℕ) → length v ≡ 86 → get_or v 5 0 ≤ 16
+    → board_in_range (board_of v) ≡ (eqb (get_or v 4 0) 1 || (eqb (get_or v 4 0) 0 && (eqb (get_or v 5 0) 0 && every is_zero (take 4 v))))
+unfolding board_of board_in_range all_of window_of window_words from
+board_range_so v long few = rw (words-from 0 4 v (omega arith), rows_many v few, le-leb (get_or v 5 0) 16 few, and-true) (open_or_shut (get_or v 4 0) (get_or v 5 0) (is_zero (get_or v 0 0)) (is_zero (get_or v 1 0)) (is_zero (get_or v 2 0)) (is_zero (get_or v 3 0)))
 
-  pub board_unshut : get_or v 4 0 ≡ 0 → (get_or v 5 0 ≡ 0 → ⊥) → false ≡ board_in_range (board_of v)
-  unfolding board_of board_in_range all_of
-  board_unshut e f = rw (e, rows_many v few, le-leb (get_or v 5 0) 16 few, ne_eqb (get_or v 5 0) 0 f, and-false)
+-- ---- the memo's words
+pub memo_at_first : (k : ℕ) (m : List ℕ) → length m ≡ 3 * k → memo_tidy k m ≡ slots_tidy (k - 0) 0 (drop (3 * 0) m)
+memo_at_first k m long = let all : k - 0 ≡ k = omega arith in rw all (memo_so k m long)
 
-  pub board_shut : (r : Bool) → length v ≡ 86 → get_or v 4 0 ≡ 0 → get_or v 5 0 ≡ 0 → r ≡ every is_zero (take (4 - 0) (drop 0 v)) → r ≡ board_in_range (board_of v)
-  unfolding board_of board_in_range all_of window_of window_words from
-  board_shut r h e f q = q ∙ rw (words-from 0 4 v (omega arith), e, rows_many v few, f, and-true, and-true, and-true)
+pub slots_more : (k i last : ℕ) (m : List ℕ) → i < k
+    → slots_tidy (k - i) last (drop (3 * i) m)
+    ≡ cond (eqb (get_or m (3 * i) 0) 0) (every is_zero (behind m (3 * i))) (ltb last (get_or m (3 * i) 0) && slots_tidy (k - (i + 1)) (get_or m (3 * i) 0) (drop (3 * (i + 1)) m))
+unfolding slots_tidy
+slots_more k i last m h =
+    let left : k - i ≡ suc (k - (i + 1)) = omega arith in
+    let next : 3 * i + 3 ≡ 3 * (i + 1) = omega arith in
+    rw (left, get_or-drop, add-zero (3 * i), drop-drop, next, take_rest m (3 * i))
+
+pub slots_none : (k i last : ℕ) (m : List ℕ) → k ≤ i → slots_tidy (k - i) last m ≡ true
+unfolding slots_tidy
+slots_none k i last m h = let none : k - i ≡ 0 = omega arith in rw none
+
+-- ---- the whole
+cut_front : (n size : ℕ) (ws : List ℕ) → cut n size (take (size * n) ws) ≡ cut n size ws
+cut_front zero size ws = refl
+cut_front (suc n) size ws =
+    let m : size * suc n ≡ size + size * n = omega (arith, mul-suc size n) in
+    rw (m, take-take size (size + size * n) ws (omega arith), drop-take size (size * n) ws, cut_front n size (drop size ws))
+
+pub pages_lent : (p e : ℕ) (w : List ℕ) → e ≡ 16 + 52 * p → cut p 52 (take (e - 16) (drop 16 w)) ≡ cut p 52 (drop 16 w)
+pages_lent p e w h = let n : e - 16 ≡ 52 * p = omega arith in rw n (cut_front p 52 (drop 16 w))
+
+pub boards_many : (w : List ℕ) → Laid w → length (drop (16 + 52 * get_or w 5 0 + 3 * get_or w 7 0) w) / 86 ≡ get_or w 9 0
+boards_many w given =
+    let long : length (drop (16 + 52 * get_or w 5 0 + 3 * get_or w 7 0) w) ≡ 86 * get_or w 9 0 = simp length-drop (omega (arith, given.long)) in
+    rw long (mul-div_cancel_left (get_or w 9 0) (omega arith))
+
+pub header_so : (w : List ℕ) → get_or w 1 0 < 2 ^ 32
+    → header_in_range (store_of w) ≡ (not (eqb (get_or w 1 0) 0) && (ltb (get_or w 2 0) (get_or w 5 0) && (not (eqb (get_or w 3 0) 0) && leb (get_or w 3 0) 5)))
+unfolding header_in_range store_of all_of
+header_so w h = rw (pages_many w, le-leb (get_or w 1 0) limit (omega arith)) (grind (arith, nat_tests))
+
+pub tidy_so : (w : List ℕ) → Laid w → tidy w ≡ (header_in_range (store_of w) && (pages_tidy w && (memo_part_tidy w && boards_tidy w)))
+unfolding all_of
+tidy_so w given = sym (tidy-parts w given.laid) ∙ rw and-true

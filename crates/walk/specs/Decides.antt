@@ -187,7 +187,7 @@ module _ (w : List ℕ) (t : TidyWords w) where
       each_all_of _
       (eq-eqb _ _ (flag_times n one.inside new ∙ once)
       also else_or (is_free (page_at s.pages (page_no n))) _ (λ f. visited n (reached s) (omega (arith, once, ap (λ b. one_if (not b)) f)) (every_all _ _ rules.1.0))
-      also all_at (every_all _ _ rules.1.1.0) n free_page (omega arith)
+      also all_at {xs = (store_of w).pages} (every_all _ _ rules.1.1.0) n free_page (omega arith)
       also tt)))
     where
       at_most_once : (n : ℕ) (b : Bool) → ltb n (length (store_of w).pages) ≡ b → Rule1 (store_of w) → times n (reached (store_of w)) + one_if (get_or clear n false) ≤ 1

@@ -1,0 +1,14 @@
+use Rattle.std.proofs.Common.{rules, take}
+use Rattle.std.proofs.lemmas.Iterator.{YieldsList-from_slice}
+use Rattle.std.proofs.lemmas.Iterator.Search.{all_from_yields_List}
+use borrow.Author.Tests.{tests}
+use Rattle.rules.specs.Store.{store_of}
+use Rattle.walk.specs.Walk.{covered}
+use Rattle.walk.proofs.Pages.{places_read}
+use Rattle.walk.proofs.covers.Goals as goal
+
+pub returns : goal.returns
+returns c =
+    let g = c.page_there-g.result in
+    rw (← places_read _ c.requires c.args.at _ c.page_there-g.ensures)
+    (all_from_yields_List (covered (store_of c.args.store.now).pages) _ _ _ c.all.ensures.ran (YieldsList-from_slice (take g.count g.places) cc) (λ x b q k. search (rules, tests)))
