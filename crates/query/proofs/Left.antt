@@ -1,5 +1,5 @@
 -- What a descent has still to write: the keys from a place of a page on, written from here on, give what all of them give from the start.
-use Rattle.std.proofs.Common.{◌≡◌, ℕ, zero, suc, ◌+◌, ◌-◌, ◌≤◌, ◌<◌, Bool, true, false, List, [], ◌∷◌, ◌++◌, length, get_or, set, take, drop, refl, sym, ◌∙◌, ap, ap₂, arith, add-one, add-zero}
+use Rattle.std.proofs.Common.{◌≡◌, ℕ, zero, suc, ◌+◌, ◌-◌, ◌≤◌, Bool, true, false, List, [], ◌∷◌, ◌++◌, length, set, drop, refl, sym, ◌∙◌, ap, arith, add-one, add-zero}
 use Rattle.std.proofs.Math.ListN.{drop_of_length-le, length-append}
 use Rattle.std.proofs.Math.Seq.{sets}
 use mathlib.Core.List.{flat_map}
@@ -8,8 +8,8 @@ use Rattle.rules.specs.declared.Window.{Window}
 use Rattle.rules.specs.declared.Entry.{Entry}
 use Rattle.rules.specs.Lists.{put_if}
 use Rattle.rules.specs.Boxes.{meets}
-use Rattle.rules.specs.Store.{no_place, child_of, page_at, store_of}
-use Rattle.query.specs.Keys.{key_of, hit, leaf_keys, keys_at, keys_below, keys_under, Searchable, Written}
+use Rattle.rules.specs.Store.{child_of, page_at, store_of}
+use Rattle.query.specs.Keys.{key_of, hit, leaf_keys, keys_at, keys_below, keys_under, Written}
 
 module _ (v : List ℕ) (w : Window) where
   -- ---- the keys of a place, in place i of a page at a level

@@ -1,5 +1,5 @@
 -- A row from its key, and a row more behind those that are written.
-use Rattle.std.proofs.Common.{◌≡◌, ℕ, ◌+◌, ◌-◌, ◌*◌, ◌%◌, ◌≤◌, ◌<◌, List, [], ◌++◌, length, get_or, take, drop, map, refl, ◌∙◌, ap, arith, add-one, append_assoc, drop-drop, length-take-le}
+use Rattle.std.proofs.Common.{◌≡◌, ℕ, ◌+◌, ◌-◌, ◌*◌, ◌%◌, ◌<◌, List, [], ◌++◌, length, get_or, take, drop, map, refl, ◌∙◌, ap, arith, add-one, append_assoc, drop-drop, length-take-le}
 use Rattle.std.proofs.Math.ListN.{length-map}
 use Rattle.std.proofs.Math.Seq.{take-suc, take_at, drop_at}
 use mathlib.Core.List.{flat_map, map-append, append-nil}

@@ -36,6 +36,7 @@ fn put_key(keys: &mut [u64], n: usize, key: u64)
 // ---- what a store holds
 
 // Page `at`, whose words are lent on to be read; past the last there is an empty one.
+#[tactic(auto, using(crate::proofs::Lent::header_room, crate::proofs::Lent::page_room, crate::proofs::Lent::page_laid))]
 fn page_of(store: &[u32], at: PageNo) -> Page
     requires { Searchable store.now }
     ensures { result ≡ laid_page (page_at (store_of store.now).pages at) }
@@ -44,6 +45,7 @@ fn page_of(store: &[u32], at: PageNo) -> Page
 }
 
 // Whether a query lists the entry; its box is tried first, since the memo takes longer.
+#[tactic(auto, using(crate::proofs::Lent::memo_held, crate::proofs::Lent::memo_read, crate::proofs::Lent::hit_latest, crate::proofs::Lent::no_hit))]
 fn is_hit(store: &[u32], e: Entry, w: Window) -> bool
     requires { Searchable store.now }
     ensures { result ≡ hit (store_of store.now).memo w e }
@@ -96,6 +98,7 @@ fn collect(store: &[u32], level: u32, at: PageNo, w: Window, keys: &mut [u64], n
 }
 
 // The keys of the query's rows, in order, at the front of `keys`, and how many there are; 3 entries for each of 192 pages are the most.
+#[tactic(auto, using(crate::proofs::Lent::header_room, crate::proofs::Finding::level_least, crate::proofs::Finding::root_room, crate::proofs::Finding::found_inside, crate::proofs::Finding::found_within))]
 pub fn find(store: &[u32], w: Window, keys: &mut [u64], work: &mut [u64]) -> usize
     requires searchable { Searchable store.now }
     requires keys_len { (length keys.old ≡ 576) × (length work.old ≡ 576) }
