@@ -1,11 +1,7 @@
 -- From the root all keys of the window are found, and they are sorted in their part of the lent slice.
-use Prim.Native.Nat.{ℕ, ◌+◌, ◌-◌, ◌≤◌}
-use native.Mathlib.Omega.{arith}
-use mathlib.Core.Path.{◌≡◌, sym, ◌∙◌, ap, ap₂}
-use mathlib.Core.List.{List, ◌++◌, map}
-use lib.ListN.{length, get_or, take, drop, length-append}
-use lib.Seq.{sets, sets-eq, take_at, drop_at}
-use borrow.Rule.Slice.PartMut.{post_of}
+use Rattle.std.proofs.Common.{◌≡◌, ℕ, ◌+◌, ◌≤◌, List, ◌++◌, length, get_or, take, drop, map, sym, ◌∙◌, ap, ap₂, arith}
+use Rattle.std.proofs.Math.ListN.{length-append}
+use Rattle.std.proofs.Math.Seq.{sets, sets-eq, take_at, drop_at}
 use Rattle.rules.specs.declared.PageNo.{PageNo}
 use Rattle.rules.specs.declared.Window.{Window}
 use Rattle.rules.specs.Store.{page_no, store_of}
@@ -49,19 +45,18 @@ module _ (v : List ℕ) (h : Searchable v) (level : ℕ) (levels : level ≡ get
       pub found_within : (work : List ℕ) → length work ≡ 576 → r ≤ length work
       found_within work e = omega (arith, count_found, keys_most v h w)
 
-      pub all_found : (work ks ws : List ℕ) → ks ≡ sorted (take (r - 0) keys') → ws ≡ worked (take (r - 0) keys') (take (r - 0) work)
-          → Found (store_of v) w keys work r (ks ++ post_of 0 (r - 0) keys') (ws ++ post_of 0 (r - 0) work)
+      pub all_found : (work ks ws : List ℕ) → ks ≡ sorted (take r keys') → ws ≡ worked (take r keys') (take r work)
+          → Found (store_of v) w keys work r (ks ++ drop r keys') (ws ++ drop r work)
       all_found work ks ws p q =
           let S = keys_in (store_of v) w in
-          let z : r - 0 ≡ r = omega arith in
           let here : take r keys' ≡ S = ap (take r) in_front ∙ take_at S (drop r keys) r (sym count_found) in
           let rest : drop r keys' ≡ drop r keys = ap (drop r) in_front ∙ drop_at S (drop r keys) r (sym count_found) in
-          let order : ks ≡ sorted S = p ∙ rw (z, here) in
+          let order : ks ≡ sorted S = p ∙ rw here in
           let long : length ks ≡ r = ap length order ∙ length_reordered (sorted_moves S) ∙ sym count_found in
           record {
-            listed = rw (z, order, rest);
-            worked_in = rw (q, z, here);
+            listed = rw (order, rest);
+            worked_in = rw (q, here);
             many = count_found ∙ rows_many v h w;
             most = omega (arith, count_found, keys_most v h w);
-            rows = ap (map (row_of_key (store_of v).pages)) (take_at ks (drop (r - 0) keys') r long ∙ order) ∙ rows_found v h w;
+            rows = ap (map (row_of_key (store_of v).pages)) (take_at ks (drop r keys') r long ∙ order) ∙ rows_found v h w;
           }

@@ -1,24 +1,21 @@
 -- What is read from the words of a store that can be searched: its pages, its memo, and whether a query lists an entry.
-use Prim.Native.Nat.{ℕ, ◌≤◌}
-use native.Mathlib.Omega.{arith}
-use mathlib.Core.Path.{◌≡◌, sym, ◌∙◌, ap}
-use mathlib.Core.Bool.{Bool, true, false, and-true, and-false}
-use mathlib.Core.List.{List}
-use lib.ListN.{length, get_or}
+use Rattle.std.proofs.Common.{◌≡◌, ℕ, ◌+◌, ◌*◌, ◌≤◌, ◌<◌, Bool, true, false, List, length, get_or, take, refl, sym, ◌∙◌, ap, arith}
+use Rattle.std.proofs.Math.Bool.{and-true, and-false}
+use Rattle.std.proofs.Math.Seq.{take_at}
 use Rattle.rules.specs.declared.PageNo.{PageNo}
 use Rattle.rules.specs.declared.Window.{Window}
 use Rattle.rules.specs.declared.Entry.{Entry}
 use Rattle.rules.specs.Boxes.{meets}
 use Rattle.rules.specs.Store.{page_at, memo_words, store_of}
 use Rattle.rules.specs.Memo.{is_latest}
-use Rattle.rules.specs.laws.Placed.{Placed, pages_count}
+use Rattle.rules.specs.laws.Placed.{Placed, header_long, pages_count, pages_room}
 use Rattle.page.specs.declared.Page.{Page}
-use Rattle.page.specs.Struct.{laid_page, struct_at}
+use Rattle.page.specs.Struct.{eight, laid_page, struct_at}
 use Rattle.page.specs.Laws.{struct_there}
-use Rattle.memo.specs.Slots.{slots_in, HoldsMemo}
-use Rattle.memo.specs.Laws.{so_latest}
+use Rattle.memo.specs.Slots.{slots_in, HoldsMemo, MemoWords}
+use Rattle.memo.specs.Laws.{memo_given, so_latest}
 use Rattle.query.specs.Keys.{hit, Searchable, searchable_placed}
-use Rattle.query.specs.Descent.{page_holds}
+use Rattle.query.specs.Descent.{page_holds, page_inside}
 
 module _ (v : List ℕ) (h : Searchable v) where
   placed : Placed v
@@ -27,10 +24,32 @@ module _ (v : List ℕ) (h : Searchable v) where
   pub places_fit : (at : PageNo) → length (page_at (store_of v).pages at).places ≤ 8
   places_fit = page_holds placed.fits.pages_fit (omega arith)
 
+  pub header_room : 16 ≤ length v
+  header_room = header_long v placed
+
   module _ (p : ℕ) (there : p ≡ get_or v 5 0) where
+    pub page_room : 16 + 52 * p ≤ length v
+    page_room = pages_room v placed p there
+
     pub page_laid : (at : PageNo) (g : Page) → g ≡ struct_at v p at → g ≡ laid_page (page_at (store_of v).pages at)
     page_laid at g e =
         e ∙ ap (λ n. struct_at v n at) (there ∙ pages_count v placed) ∙ rw h.written at (struct_there (store_of v) placed.fits.pages_fit at)
+
+  -- its used places are the page's
+  module _ (at : PageNo) (g : Page) (laid : g ≡ laid_page (page_at (store_of v).pages at)) where
+    pub count_fits : g.count ≤ 8
+    unfolding laid_page
+    count_fits = rw laid (places_fit at)
+
+    pub used_places : take g.count g.places ≡ (page_at (store_of v).pages at).places
+    unfolding laid_page eight
+    used_places = rw laid (take_at (page_at (store_of v).pages at).places _ _ refl)
+
+    -- a page that has one is among the store's, and has at most eight
+    pub place_inside : (i : ℕ) → i < length (take g.count g.places) → (at.0 < 192) × (i < 8)
+    place_inside i k =
+        let there : i < length (page_at (store_of v).pages at).places = rw used_places at k in
+        (omega (arith, page_inside (store_of v).pages at i there, h.ranges.sizes.pages_most), omega (arith, places_fit at))
 
   -- ---- the memo
   pub memo_held : HoldsMemo v
@@ -43,11 +62,15 @@ module _ (v : List ℕ) (h : Searchable v) where
         memo = h.ranges.memo;
       }
 
-  pub hit_latest : (m : List ℕ) → m ≡ memo_words (store_of v).slots (store_of v).memo → (e : Entry) (w : Window) (b r : Bool) → b ≡ meets e.bounds w → b ≡ true
-      → r ≡ is_latest (slots_in m) e → r ≡ hit (store_of v).memo w e
-  unfolding hit
-  hit_latest m part e w b r y t q =
-      so_latest _ _ h.ranges.memo m part e r q ∙ sym (rw (sym y ∙ t) (and-true (is_latest (store_of v).memo e)))
+  module _ (m : List ℕ) (part : m ≡ memo_words (store_of v).slots (store_of v).memo) where
+    pub memo_read : MemoWords m
+    memo_read = memo_given _ _ h.ranges.memo m part
+
+    pub hit_latest : (e : Entry) (w : Window) (b r : Bool) → b ≡ meets e.bounds w → b ≡ true
+        → r ≡ is_latest (slots_in m) e → r ≡ hit (store_of v).memo w e
+    unfolding hit
+    hit_latest e w b r y t q =
+        so_latest _ _ h.ranges.memo m part e r q ∙ sym (rw (sym y ∙ t) (and-true (is_latest (store_of v).memo e)))
 
 -- ---- an entry whose box doesn't meet the window isn't listed
 pub no_hit : (v : List ℕ) (e : Entry) (w : Window) (b : Bool) → b ≡ meets e.bounds w → b ≡ false → false ≡ hit (store_of v).memo w e

@@ -9,23 +9,25 @@ ghost use Rattle.page.specs.Struct.{laid_page};
 ghost use Rattle.query.specs.Keys.{key_of, row_of_key, hit, keys_at, Searchable, Written, Found};
 
 use page::Page;
+use rules::part::Part;
 use rules::{Entry, PageNo, Row, Train, Window};
 
 // ---- keys
 
 // The key of an entry, which stands in place i of page `at`.
+#[tactic(auto, unfolding(crate::specs::Keys::key_of))]
 fn key_for(at: PageNo, i: usize, e: Entry) -> u64
     requires { (at.0 < 192) × (i < 8) }
     ensures { result ≡ key_of at i e }
 {
-    let place = 8 * (at.0 as u64) + (i as u64);
-    (e.key as u64) * 4294967296 + place
+    u64::from(e.key) * 4294967296 + (8 * u64::from(at.0) + i as u64)
 }
 
 // Writes a key at place n, where there is room.
 fn put_key(keys: &mut [u64], n: usize, key: u64)
     ensures { keys.new ≡ set keys.old n key }
 {
+    // `get_mut` promises nothing of the slice afterwards.
     if n < keys.len() {
         keys[n] = key;
     }
@@ -34,6 +36,7 @@ fn put_key(keys: &mut [u64], n: usize, key: u64)
 // ---- what a store holds
 
 // Page `at`, whose words are lent on to be read; past the last there is an empty one.
+#[tactic(auto, using(crate::proofs::Lent::header_room, crate::proofs::Lent::page_room, crate::proofs::Lent::page_laid))]
 fn page_of(store: &[u32], at: PageNo) -> Page
     requires { Searchable store.now }
     ensures { result ≡ laid_page (page_at (store_of store.now).pages at) }
@@ -42,14 +45,12 @@ fn page_of(store: &[u32], at: PageNo) -> Page
 }
 
 // Whether a query lists the entry; its box is tried first, since the memo takes longer.
+#[tactic(auto, using(crate::proofs::Lent::memo_held, crate::proofs::Lent::memo_read, crate::proofs::Lent::hit_latest, crate::proofs::Lent::no_hit))]
 fn is_hit(store: &[u32], e: Entry, w: Window) -> bool
     requires { Searchable store.now }
     ensures { result ≡ hit (store_of store.now).memo w e }
 {
-    if boxes::meets(e.bounds, w) {
-        return memo::is_latest(memo::part(store), e);
-    }
-    false
+    boxes::meets(e.bounds, w) && memo::is_latest(memo::part(store), e)
 }
 
 // ---- the descent
@@ -68,55 +69,36 @@ fn add_hit(
     requires at_bound { (at.0 < 192) × (i < 8) × (n ≤ 576) }
     ensures { Written keys.old n (put_if (hit (store_of store.now).memo w e) (key_of at i e) []) result keys.new }
 {
-    if is_hit(store, e, w) {
-        put_key(keys, n, key_for(at, i, e));
-        return n + 1;
+    if !is_hit(store, e, w) {
+        return n;
     }
-    n
+    put_key(keys, n, key_for(at, i, e));
+    n + 1
 }
 
-// The same for all places of a leaf, from n on.
-fn collect_leaf(store: &[u32], at: PageNo, w: Window, keys: &mut [u64], n: usize) -> usize
-    requires searchable { Searchable store.now }
-    requires at_bound { n + length (keys_at store.now w 1 at) ≤ 576 }
-    ensures { Written keys.old n (keys_at store.now w 1 at) result keys.new }
-{
-    let g = page_of(store, at);
-    let count = g.count as usize;
-    let mut m = n;
-    let mut i = 0;
-    while i < count {
-        let e = page::place_at(g, i);
-        m = add_hit(store, at, i, e, w, keys, m);
-        i += 1;
-    }
-    m
-}
-
-// And for all leaves under page `at`, which stands at this level: it calls itself for each child whose box meets the window.
+// The same for all leaves under page `at`, which stands at this level, from n on: above the leaves it calls itself for each child whose
+// box meets the window.
+#[tactic(auto, using(crate::proofs::Lent::count_fits))]
 fn collect(store: &[u32], level: u32, at: PageNo, w: Window, keys: &mut [u64], n: usize) -> usize
     requires searchable { Searchable store.now × (1 ≤ level) }
     requires at_bound { n + length (keys_at store.now w level at) ≤ 576 }
     ensures { Written keys.old n (keys_at store.now w level at) result keys.new }
 {
-    if level == 1 {
-        return collect_leaf(store, at, w, keys, n);
-    }
     let g = page_of(store, at);
-    let count = g.count as usize;
+    let used = &g.places[..g.count as usize];
     let mut m = n;
-    let mut i = 0;
-    while i < count {
-        let e = page::place_at(g, i);
-        if boxes::meets(e.bounds, w) {
+    for (i, &e) in used.iter().enumerate() {
+        if level == 1 {
+            m = add_hit(store, at, i, e, w, keys, m);
+        } else if boxes::meets(e.bounds, w) {
             m = collect(store, level - 1, PageNo(e.key), w, keys, m);
         }
-        i += 1;
     }
     m
 }
 
 // The keys of the query's rows, in order, at the front of `keys`, and how many there are; 3 entries for each of 192 pages are the most.
+#[tactic(auto, using(crate::proofs::Lent::header_room, crate::proofs::Finding::level_least, crate::proofs::Finding::root_room, crate::proofs::Finding::found_inside, crate::proofs::Finding::found_within))]
 pub fn find(store: &[u32], w: Window, keys: &mut [u64], work: &mut [u64]) -> usize
     requires searchable { Searchable store.now }
     requires keys_len { (length keys.old ≡ 576) × (length work.old ≡ 576) }
@@ -130,7 +112,7 @@ pub fn find(store: &[u32], w: Window, keys: &mut [u64], work: &mut [u64]) -> usi
         keys,
         0,
     );
-    sort::sort(&mut keys[0..r], &mut work[0..r]);
+    sort::sort(&mut keys[..r], &mut work[..r]);
     r
 }
 
@@ -143,36 +125,20 @@ pub fn row_for(store: &[u32], key: u64) -> Row
 {
     let at = PageNo((key / 8 % 536870912) as u32);
     let e = page::place_at(page_of(store, at), (key % 8) as usize);
-    let bounds = e.bounds;
     Row {
         train: Train(e.key),
-        bounds,
+        bounds: e.bounds,
     }
 }
 
-fn write_row(dst: &mut [u32], r: Row)
-    requires { length dst.old ≡ 5 }
-    ensures { dst.new ≡ row_words r }
-{
-    dst[0] = r.train.0;
-    dst[1] = r.bounds.x0;
-    dst[2] = r.bounds.y0;
-    dst[3] = r.bounds.x1;
-    dst[4] = r.bounds.y1;
-}
-
 // Writes the rows of the first n keys to the front of `out`, each row's part lent on to be written.
+#[tactic(auto, using(crate::proofs::Writing::no_rows, crate::proofs::Writing::written_more))]
 pub fn write_rows(store: &[u32], keys: &[u64], n: usize, out: &mut [u32])
     requires searchable { Searchable store.now }
     requires n_in_bounds { (n ≤ length keys.now) × (5 * n ≤ length out.old) }
     ensures { out.new ≡ flat_map row_words (map (row_of_key (store_of store.now).pages) (take n keys.now)) ++ drop (5 * n) out.old }
 {
-    let mut i = 0;
-    while i < n {
-        let a = 5 * i;
-        let e = a + 5;
-        let r = row_for(store, keys[i]);
-        write_row(&mut out[a..e], r);
-        i += 1;
+    for (i, &key) in keys[..n].iter().enumerate() {
+        row_for(store, key).write(&mut out[5 * i..5 * i + 5]);
     }
 }
