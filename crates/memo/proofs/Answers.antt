@@ -67,10 +67,10 @@ module _ (m : List ℕ) (t : Train) (r : LookUp) (e : r ≡ look_up t (slots_in 
     unfolding lowered lowered_by
     lowered_out h m' g = rw (so_found, eq-eqb (old - 1) 0 (omega arith)) g
 
-    pub lowered-left : 1 < old → MemoWords m → (m' : List ℕ) → m' ≡ with_slot m place (record { train = t; latest = latest; old = old - 1 })
+    pub lowered_left : 1 < old → MemoWords m → (m' : List ℕ) → m' ≡ with_slot m place (record { train = t; latest = latest; old = old - 1 })
         → m' ≡ memo_words (room m) (lowered t (slots_in m))
     unfolding lowered lowered_by
-    lowered-left h w m' g = rw (so_found, ne_eqb (old - 1) 0 (omega arith)) (g ∙ memo_put m w place _ so_used)
+    lowered_left h w m' g = rw (so_found, ne_eqb (old - 1) 0 (omega arith)) (g ∙ memo_put m w place _ so_used)
 
 -- ---- what the look-up's answer says of an entry
 module _ (m : List ℕ) (e : Entry) (r : LookUp) (answer : r ≡ look_up (train_of e) (slots_in m)) where

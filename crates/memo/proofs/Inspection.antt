@@ -16,7 +16,7 @@ use Rattle.rules.specs.Memo.{inspected}
 use Rattle.rules.specs.Store.{memo_words}
 use Rattle.rules.specs.laws.Words.{no_slot, all_slots}
 use Rattle.rules.specs.laws.Memo.{used_inside, unused_past, one_stays, one_freed}
-use Rattle.memo.specs.Slots.{room, table, slots_in, MemoWords, slot_at, with_slot}
+use Rattle.memo.specs.Slots.{room, table, slots_in, MemoWords, Inspected, slot_at, with_slot}
 use Rattle.memo.specs.Laws.{memo_table, memo_slot}
 use Rattle.memo.proofs.Words.{table-put, table-length, put_as_long, memo_written}
 
@@ -81,10 +81,10 @@ module _ (m₀ m : List ℕ) (w : MemoWords m₀) (mark : Stamp) (kept i : ℕ) 
   all_staying : length (slots_in m₀) ≤ i → staying mark m₀ i ≡ inspected mark (slots_in m₀)
   all_staying h = ap (inspected mark) (take_all i (slots_in m₀) h)
 
-  pub freed_in_all : length (slots_in m₀) ≤ i → i - kept ≡ length (slots_in m₀) - length (inspected mark (slots_in m₀))
+  freed_in_all : length (slots_in m₀) ≤ i → i - kept ≡ length (slots_in m₀) - length (inspected mark (slots_in m₀))
   freed_in_all h = omega (arith, p.counted, p.within, ap length (all_staying h))
 
-  pub words_in_all : length (slots_in m₀) ≤ i → m ≡ memo_words (room m₀) (inspected mark (slots_in m₀))
+  words_in_all : length (slots_in m₀) ≤ i → m ≡ memo_words (room m₀) (inspected mark (slots_in m₀))
   unfolding all_slots
   words_in_all h =
       let same = ap length (all_staying h) in
@@ -92,6 +92,9 @@ module _ (m₀ m : List ℕ) (w : MemoWords m₀) (mark : Stamp) (kept i : ℕ) 
       let n : i - kept + (room m₀ - length (slots_in m₀)) ≡ room m₀ - length (inspected mark (slots_in m₀)) = omega (arith, w.in_range.used_most) in
       memo_written m₀ m w.whole p.same_length (inspected mark (slots_in m₀)) (omega (arith, w.in_range.used_most))
       (rw (p.gathered, all_staying h, after, replicate-append-replicate, n))
+
+  pub inspected_all : length (slots_in m₀) ≤ i → (freed : ℕ) → freed ≡ i - kept → Inspected m₀ mark freed m
+  inspected_all h freed e = record { words_left = words_in_all h; slots_freed = e ∙ freed_in_all h }
 
   -- ---- at a slot
   module _ (in-loop : i < room m) (s : Slot) (e : s ≡ slot_at m i) where

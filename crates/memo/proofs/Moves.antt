@@ -1,131 +1,98 @@
 -- Slots that move up for a new one, and down for one that goes.
-use Prim.Native.Nat.{ℕ, zero, suc, ◌+◌, ◌-◌, ◌<◌, ◌≤◌}
-use native.Mathlib.Omega.{arith}
-use native.Mathlib.Numerals.{add-one}
-use mathlib.Core.Path.{◌≡◌, refl, sym, ◌∙◌, ap}
-use mathlib.Core.List.{List, [], ◌∷◌, ◌++◌, append_assoc}
-use lib.ListN.{length, get_or, set, replicate, replicate-append-replicate}
+use Rattle.std.proofs.Common.{ℕ, zero, suc, ◌≡◌, ◌+◌, ◌-◌, ◌*◌, ◌<◌, ◌≤◌, List, [], ◌∷◌, ◌++◌, length, get_or, take, drop, set, replicate, append_assoc, length-append, length-drop, take_all, drop-cons, add-one, append-nil, take-suc, length-take-le, refl, sym, ap, ◌∙◌, arith}
+use Rattle.std.specs.List.{copy_within}
+use Rattle.std.proofs.lemmas.List.{length-replicate, drop_all, set_at, take_at, take-append-le, drop-append-le, replicate-append-replicate}
+use Rattle.std.proofs.Math.Seq.{take-nil}
 use borrow.Author.Tests.{lt-ltb, le-ltb}
 use Rattle.rules.specs.declared.Slot.{Slot}
 use Rattle.rules.specs.declared.LookUp.TheVariants.{Absent}
-use Rattle.rules.specs.laws.Memo.{inserted-length, look_up-says}
-use Rattle.rules.specs.laws.Places.{without-length}
 use Rattle.rules.specs.Lists.{without, first}
 use Rattle.rules.specs.Memo.{slot_inserted, look_up}
-use Rattle.rules.specs.Store.{memo_words}
 use Rattle.rules.specs.laws.All.{All, none, more}
+use Rattle.rules.specs.laws.Memo.{inserted-length, look_up-says}
+use Rattle.rules.specs.laws.Places.{without-length, without_front}
 use Rattle.rules.specs.laws.Words.{no_slot, all_slots}
-use Rattle.memo.specs.Slots.{room, table, slots_in, MemoWords, slot_at, with_slot, place_for}
+use Rattle.rules.specs.Store.{memo_words}
+use Rattle.memo.specs.Slots.{place_for, room, slots_in, MemoWords, with_slot}
 use Rattle.memo.specs.Laws.{memo_table}
-use Rattle.memo.proofs.Words.{table-put, table_as_long, put_as_long, memo_written}
-use Rattle.memo.proofs.Places.{place-case}
+use Rattle.memo.proofs.Words.{moved_written}
+use Rattle.memo.proofs.Places.{place-case, place-most}
 
--- what is still to be done gives in the end what was to be done at first
-pub record Onward (m₀ m : List ℕ) (first then : List Slot) : Type 0 where
-  pub same_length : length m ≡ length m₀
-  pub same_end : then ≡ first
+-- ---- up by one from place i on, where the last one goes
+pushed : (xs : List Slot) (z new : Slot) (i : ℕ) → i ≤ length xs
+    → set (copy_within (xs ++ z ∷ []) i (length xs) (i + 1)) i new ≡ take i xs ++ new ∷ drop i xs
+pushed xs z new i h =
+    let none : drop (i + 1 + (length xs - i)) (xs ++ z ∷ []) ≡ [] = drop_all (i + 1 + (length xs - i)) (xs ++ z ∷ []) (simp length-append (omega arith)) in
+    let behind : take (length xs - i) (drop i (xs ++ z ∷ [])) ≡ drop i xs = rw (drop-append-le i xs (z ∷ []) h) (take_at (drop i xs) (z ∷ []) _ (length-drop i xs)) in
+    let ahead : take (i + 1) (xs ++ z ∷ []) ≡ take i xs ++ get_or (xs ++ z ∷ []) i z ∷ [] =
+    rw (add-one i, take-suc (xs ++ z ∷ []) i z (simp length-append (omega arith)), take-append-le i xs (z ∷ []) h) in
+    rw (none, behind, ahead, append-nil, append_assoc) (set_at (take i xs) (get_or (xs ++ z ∷ []) i z) (drop i xs) new i (length-take-le i xs h))
 
--- ---- up by one from place i on: the last one goes
-pub pushed : List Slot → ℕ → Slot → List Slot
-pushed [] i x = []
-pushed (m ∷ ms) zero x = x ∷ pushed ms zero m
-pushed (m ∷ ms) (suc i) x = m ∷ pushed ms i x
+-- a new slot stands between those before its place and those behind it
+inserted_at : (new : Slot) {ms : List Slot} → All (λ m. m.train.0 ≡ new.train.0 → ⊥) ms
+    → slot_inserted new ms ≡ take (place_for new.train ms) ms ++ new ∷ drop (place_for new.train ms) ms
+unfolding slot_inserted place_for first
+inserted_at new none = refl
+inserted_at new (more {x = m} {xs = ms} d a) =
+    place-case (λ p. slot_inserted new (m ∷ ms) ≡ take p (m ∷ ms) ++ new ∷ drop p (m ∷ ms)) new.train m ms
+    (λ h. rw (lt-ltb new.train.0 m.train.0 (omega arith)))
+    (λ h. rw (le-ltb new.train.0 m.train.0 (omega arith)) (ap (λ r. m ∷ r) (inserted_at new a)))
 
-push_one : (ms : List Slot) (i : ℕ) (x : Slot) → pushed (set ms i x) (suc i) (get_or ms i no_slot) ≡ pushed ms i x
-unfolding pushed
-push_one [] i x = refl
-push_one (m ∷ ms) zero x = refl
-push_one (m ∷ ms) (suc i) x = ap (λ r. m ∷ r) (push_one ms i x)
-
-pushed_none : (ms : List Slot) (i : ℕ) (x : Slot) → length ms ≤ i → pushed ms i x ≡ ms
-unfolding pushed
-pushed_none [] i x h = refl
-pushed_none (m ∷ ms) zero x h = absurd (omega arith)
-pushed_none (m ∷ ms) (suc i) x h = ap (λ r. m ∷ r) (pushed_none ms i x (omega arith))
-
--- unused slots make room
-pushed_unused : (ms : List Slot) (n : ℕ) (x : Slot) → pushed (ms ++ replicate (suc n) no_slot) 0 x ≡ x ∷ (ms ++ replicate n no_slot)
-unfolding pushed
-pushed_unused [] zero x = refl
-pushed_unused [] (suc n) x = ap (λ r. x ∷ r) (pushed_unused [] n no_slot)
-pushed_unused (m ∷ ms) n x = ap (λ r. x ∷ r) (pushed_unused ms n m)
-
-pushed_in : (new : Slot) (n : ℕ) {ms : List Slot} → All (λ m. m.train.0 ≡ new.train.0 → ⊥) ms
-    → pushed (ms ++ replicate (suc n) no_slot) (place_for new.train ms) new ≡ slot_inserted new ms ++ replicate n no_slot
-unfolding pushed slot_inserted place_for first
-pushed_in new n none = pushed_unused [] n new
-pushed_in new n (more {x = m} {xs = ms} d a) =
-    place-case (λ p. pushed (m ∷ ms ++ replicate (suc n) no_slot) p new ≡ slot_inserted new (m ∷ ms) ++ replicate n no_slot) new.train m ms
-    (λ h. rw (lt-ltb new.train.0 m.train.0 (omega arith)) (pushed_unused (m ∷ ms) n new))
-    (λ h. rw (le-ltb new.train.0 m.train.0 (omega arith)) (ap (λ r. m ∷ r) (pushed_in new n a)))
-
-pushed_among : (new : Slot) (k : ℕ) (ms : List Slot) → look_up new.train ms ≡ Absent → length ms < k
-    → pushed (all_slots k ms) (place_for new.train ms) new ≡ all_slots k (slot_inserted new ms)
+pushed_in : (new : Slot) (k i : ℕ) (ms : List Slot) → i ≡ place_for new.train ms → look_up new.train ms ≡ Absent → length ms < k
+    → set (copy_within (all_slots k ms) i (k - 1) (i + 1)) i new ≡ all_slots k (slot_inserted new ms)
 unfolding all_slots
-pushed_among new k ms e h =
-    let n : k - length ms ≡ suc (k - suc (length ms)) = omega arith in
-    rw (n, inserted-length) (pushed_in new (k - suc (length ms)) (rw e at (look_up-says new.train ms)))
+pushed_in new k i ms p e h =
+    let j = k - suc (length ms) in
+    let front : List Slot = ms ++ replicate j no_slot in
+    let inside : i ≤ length ms = omega (arith, place-most new.train ms) in
+    let most : k - 1 ≡ length front = simp (length-append, length-replicate) (omega arith) in
+    let more : k - length ms ≡ j + 1 = omega arith in
+    let whole : ms ++ replicate (k - length ms) no_slot ≡ front ++ no_slot ∷ [] = rw (more, ← replicate-append-replicate, ← append_assoc) in
+    let stands : slot_inserted new ms ≡ take i ms ++ new ∷ drop i ms = rw p (inserted_at new (rw e at (look_up-says new.train ms))) in
+    rw (whole, most)
+    (pushed front no_slot new i (omega (arith, inside))
+    ∙ rw (take-append-le i ms (replicate j no_slot) inside, drop-append-le i ms (replicate j no_slot) inside, inserted-length, stands, append_assoc))
 
-module _ (m₀ m : List ℕ) (w : MemoWords m₀) (s₀ s : Slot) (i₀ i : ℕ) (o : Onward m₀ m (pushed (table m₀) i₀ s₀) (pushed (table m) i s)) where
-  pub pushed_further : (next : Slot) (m' : List ℕ) → next ≡ slot_at m i → m' ≡ with_slot m i s
-      → Onward m₀ m' (pushed (table m₀) i₀ s₀) (pushed (table m') (i + 1) next)
-  pushed_further next m' e f =
-      record {
-        same_length = put_as_long m₀ m w.whole o.same_length i s m' f;
-        same_end = rw (f, table-put, add-one, e) (push_one (table m) i s ∙ o.same_end);
-      }
+-- ---- down by one to place i, where an unused one comes last
+without_is : {A : Type 0} (xs : List A) (i : ℕ) → without xs i ≡ take i xs ++ drop (suc i) xs
+unfolding without
+without_is [] i = sym (ap (λ r. r ++ drop (suc i) []) (take-nil i))
+without_is (x ∷ xs) zero = refl
+without_is (x ∷ xs) (suc i) = ap (λ r. x ∷ r) (without_is xs i)
 
-  pub all_pushed : room m₀ ≤ i → i₀ ≡ place_for s₀.train (slots_in m₀) → look_up s₀.train (slots_in m₀) ≡ Absent
-      → length (slots_in m₀) < room m₀ → m ≡ memo_words (room m₀) (slot_inserted s₀ (slots_in m₀))
-  all_pushed h p e f =
-      memo_written m₀ m w.whole o.same_length (slot_inserted s₀ (slots_in m₀)) (rw inserted-length f)
-      (sym (pushed_none (table m) i s (rw (table_as_long m₀ m w.whole o.same_length) h))
-      ∙ o.same_end
-      ∙ rw (p, memo_table m₀ w) (pushed_among s₀ (room m₀) (slots_in m₀) e f))
+pulled : (xs : List Slot) (n i : ℕ) (d : Slot) → length xs ≡ n → i < n → set (copy_within xs (i + 1) n i) (n - 1) d ≡ without xs i ++ d ∷ []
+pulled xs n i d long h =
+    let others : take (n - (i + 1)) (drop (i + 1) xs) ≡ drop (i + 1) xs = take_all _ _ (simp length-drop (omega arith)) in
+    let end : i + (n - (i + 1)) ≡ n - 1 = omega arith in
+    let last : drop (n - 1) xs ≡ get_or xs (n - 1) d ∷ [] = drop-cons xs (n - 1) d (omega arith) ∙ ap (λ r. get_or xs (n - 1) d ∷ r) (drop_all (suc (n - 1)) xs (omega arith)) in
+    let as_without : take i xs ++ drop (i + 1) xs ≡ without xs i = rw add-one (sym (without_is xs i)) in
+    rw (others, end, last, as_without) (set_at (without xs i) (get_or xs (n - 1) d) [] d (n - 1) (omega (arith, without-length xs i (omega arith))))
 
--- ---- down by one to place i: an unused one comes last
-pub pulled : List Slot → ℕ → List Slot
-pulled [] i = []
-pulled (m ∷ ms) zero = ms ++ (no_slot ∷ [])
-pulled (m ∷ ms) (suc i) = m ∷ pulled ms i
-
-pull_one : (ms : List Slot) (i : ℕ) → pulled (set ms i (get_or ms (suc i) no_slot)) (suc i) ≡ pulled ms i
-unfolding pulled
-pull_one [] i = refl
-pull_one (m ∷ []) zero = refl
-pull_one (m ∷ n ∷ ms) zero = refl
-pull_one (m ∷ ms) (suc i) = ap (λ r. m ∷ r) (pull_one ms i)
-
-pulled_none : (ms : List Slot) (i : ℕ) → length ms ≤ i → pulled ms i ≡ ms
-unfolding pulled
-pulled_none [] i h = refl
-pulled_none (m ∷ ms) zero h = absurd (omega arith)
-pulled_none (m ∷ ms) (suc i) h = ap (λ r. m ∷ r) (pulled_none ms i (omega arith))
-
-pulled_out : (ms zs : List Slot) (i : ℕ) → i < length ms → pulled (ms ++ zs) i ≡ without ms i ++ (zs ++ (no_slot ∷ []))
-unfolding pulled without
-pulled_out [] zs i h = absurd (omega arith)
-pulled_out (m ∷ ms) zs zero h = append_assoc ms zs (no_slot ∷ [])
-pulled_out (m ∷ ms) zs (suc i) h = ap (λ r. m ∷ r) (pulled_out ms zs i (omega arith))
-
-pulled_among : (k : ℕ) (ms : List Slot) (i : ℕ) → i < length ms → length ms ≤ k → pulled (all_slots k ms) i ≡ all_slots k (without ms i)
+pulled_out : (k i : ℕ) (ms : List Slot) → i < length ms → length ms ≤ k
+    → set (copy_within (all_slots k ms) (i + 1) k i) (k - 1) no_slot ≡ all_slots k (without ms i)
 unfolding all_slots
-pulled_among k ms i h f =
+pulled_out k i ms h f =
+    let unused : List Slot = replicate (k - length ms) no_slot in
     let n : k - length (without ms i) ≡ k - length ms + 1 = omega (arith, without-length ms i h) in
-    rw (n, ← replicate-append-replicate) (pulled_out ms (replicate (k - length ms) no_slot) i h)
+    pulled (ms ++ unused) k i no_slot (simp (length-append, length-replicate) (omega arith)) (omega arith)
+    ∙ rw (without_front ms unused i h, n, ← replicate-append-replicate, append_assoc)
 
-module _ (m₀ m : List ℕ) (w : MemoWords m₀) (i₀ i : ℕ) (o : Onward m₀ m (pulled (table m₀) i₀) (pulled (table m) i)) where
-  pub pulled_further : (next : Slot) (m' : List ℕ) → next ≡ slot_at m (i + 1) → m' ≡ with_slot m i next
-      → Onward m₀ m' (pulled (table m₀) i₀) (pulled (table m') (i + 1))
-  pulled_further next m' e f =
-      record {
-        same_length = put_as_long m₀ m w.whole o.same_length i next m' f;
-        same_end = rw (f, table-put, e, add-one) (pull_one (table m) i ∙ o.same_end);
-      }
+-- ---- in the memo's words
+module _ (m m₁ m₂ : List ℕ) (w : MemoWords m) (i : ℕ) where
+  pub all_pushed : (new : Slot) → m₁ ≡ copy_within m (3 * i) (length m - 3) (3 * i + 3) → m₂ ≡ with_slot m₁ i new → i ≡ place_for new.train (slots_in m)
+      → look_up new.train (slots_in m) ≡ Absent → length (slots_in m) < room m → m₂ ≡ memo_words (room m) (slot_inserted new (slots_in m))
+  all_pushed new moved put p e h =
+      let whole = w.whole in
+      let stop : length m - 3 ≡ 3 * (room m - 1) = omega arith in
+      let next : 3 * i + 3 ≡ 3 * (i + 1) = omega arith in
+      moved_written m m₁ m₂ whole i (room m - 1) (i + 1) i new (rw (stop, next) at moved) put (slot_inserted new (slots_in m)) (rw inserted-length h)
+      (rw (memo_table m w) (pushed_in new (room m) i (slots_in m) p e h))
 
-  pub all_pulled : room m₀ ≤ i → i₀ < length (slots_in m₀) → m ≡ memo_words (room m₀) (without (slots_in m₀) i₀)
-  all_pulled h f =
-      memo_written m₀ m w.whole o.same_length (without (slots_in m₀) i₀) (omega (arith, without-length (slots_in m₀) i₀ f, w.in_range.used_most))
-      (sym (pulled_none (table m) i (rw (table_as_long m₀ m w.whole o.same_length) h))
-      ∙ o.same_end
-      ∙ rw (memo_table m₀ w) (pulled_among (room m₀) (slots_in m₀) i₀ f w.in_range.used_most))
+  pub all_pulled : (j : ℕ) (s : Slot) → m₁ ≡ copy_within m (3 * i + 3) (length m) (3 * i) → m₂ ≡ with_slot m₁ j s → j ≡ room m - 1 → s ≡ no_slot
+      → i < length (slots_in m) → m₂ ≡ memo_words (room m) (without (slots_in m) i)
+  all_pulled j s moved put last unused h =
+      let stop : length m ≡ 3 * room m = sym w.whole in
+      let next : 3 * i + 3 ≡ 3 * (i + 1) = omega arith in
+      moved_written m m₁ m₂ w.whole (i + 1) (room m) i j s (moved ∙ ap (λ b. copy_within m (3 * i + 3) b (3 * i)) stop ∙ ap (λ a. copy_within m a (3 * room m) (3 * i)) next) put (without (slots_in m) i)
+      (omega (arith, without-length (slots_in m) i h, w.in_range.used_most))
+      (rw (memo_table m w, last, unused) (pulled_out (room m) i (slots_in m) h w.in_range.used_most))

@@ -1,11 +1,19 @@
 -- Where a train's slot is, or would be, and what the look-up finds there.
-use Prim.Native.Nat.{ℕ, zero, suc, ◌<◌, ◌≤◌, ◌+◌, ◌-◌, ◌/◌}
+use Prim.Native.Nat.{ℕ, zero, suc, ◌<◌, ◌≤◌}
 use native.Mathlib.Omega.{arith}
 use mathlib.Core.Path.{◌≡◌, refl, ap, sym, ◌∙◌}
 use mathlib.Core.List.{List, [], ◌∷◌}
-use lib.Dec.{leb}
+use Rattle.std.proofs.Common.{Bool, true, false, not, ◌&&◌, map, inl, inr}
+use Rattle.std.proofs.lemmas.Bool.{cases_lt, false≢true}
+use Rattle.std.proofs.lemmas.Bool.Decides.{nat_tests}
+use Rattle.std.proofs.lemmas.List.{get_or-map}
+use Rattle.std.specs.List.Sorted.{IsPartitionedBy, IsPartitionPoint}
+use lib.Dec.{eqb, leb, ltb}
 use lib.ListN.{length, get_or}
-use borrow.Author.Tests.{ne_eqb, eq-eqb, leb-true, leb-false}
+use borrow.Author.Tests.{ne_eqb, eq-eqb, eqb-true, eqb-false, leb-true, leb-false, ltb-true, lt-ltb, le-ltb}
+use Rattle.rules.specs.Lists.{cut}
+use Rattle.rules.specs.Store.{slot_of}
+use Rattle.rules.specs.laws.Places.{cut-length}
 use Rattle.rules.specs.declared.Train.{Train}
 use Rattle.rules.specs.declared.Slot.{Slot}
 use Rattle.rules.specs.declared.LookUp.TheVariants.{Absent, Found}
@@ -13,10 +21,10 @@ use Rattle.rules.specs.Lists.{first}
 use Rattle.rules.specs.Memo.{look_up, one_further}
 use Rattle.rules.specs.laws.Tests.{either}
 use Rattle.rules.specs.laws.All.{All, none, more, all_at, all_map}
-use Rattle.rules.specs.laws.Memo.{InOrder, o_none, o_more, used_inside, absent_before, unused_past, in_order}
+use Rattle.rules.specs.laws.Memo.{InOrder, o_none, o_more, used_inside, absent_before, in_order}
 use Rattle.rules.specs.laws.Words.{no_slot}
 use Rattle.memo.specs.Laws.{memo_slot}
-use Rattle.memo.specs.Slots.{place_for, room, MemoWords, slots_in, slot_at}
+use Rattle.memo.specs.Slots.{place_for, room, table, MemoWords, slots_in, slot_at}
 
 -- the place among a slot and later ones
 pub place-case : (P : ℕ → Type 0) (t : Train) (m : Slot) (ms : List Slot)
@@ -72,49 +80,86 @@ absent_past t (more {x = m} {xs = ms} a b) =
     (λ k h. absurd (omega arith))
     (λ k h. rw (ne_eqb m.train.0 t.0 (omega arith), absent_past t b h))
 
--- ---- the search by halves
--- the place lies between
-pub record Between (m : List ℕ) (t : Train) (lo hi : ℕ) : Type 0 where
-  pub inside : hi ≤ room m
-  pub low : lo ≤ place_for t (slots_in m)
-  pub high : place_for t (slots_in m) ≤ hi
+-- the slots before the place have a smaller train
+below_place : (t : Train) (ms : List Slot) (i : ℕ) → i < place_for t ms → (get_or ms i no_slot).train.0 < t.0
+unfolding place_for first
+below_place t [] i h = absurd (omega arith)
+below_place t (m ∷ ms) zero h = place-case (λ p. 0 < p → m.train.0 < t.0) t m ms (λ k q. absurd (omega arith)) (λ k q. k) h
+below_place t (m ∷ ms) (suc i) h =
+    place-case (λ p. suc i < p → (get_or ms i no_slot).train.0 < t.0) t m ms (λ k q. absurd (omega arith)) (λ k q. below_place t ms i (omega arith)) h
 
-pub between_all : (m : List ℕ) (t : Train) → MemoWords m → Between m t 0 (room m)
-between_all m t w = record { inside = omega arith; low = omega arith; high = omega (arith, place-most t (slots_in m), w.in_range.used_most) }
+-- ---- the search by halves, over the slots as their words
+-- whether a slot is used, by a train below this one
+abbrev pub before : Train → List ℕ → Bool
+before t w = ltb 0 (get_or w 0 0) && ltb (get_or w 0 0) t.0
 
-module _ (m : List ℕ) (t : Train) (lo hi : ℕ) (s : Slot) (w : MemoWords m) (b : Between m t lo hi) (h : lo < hi) (e : s ≡ slot_at m (lo + (hi - lo) / 2)) where
-  its_train : s.train.0 ≡ (get_or (slots_in m) (lo + (hi - lo) / 2) no_slot).train.0
-  its_train = ap (λ r. r.train.0) (e ∙ memo_slot m w (lo + (hi - lo) / 2))
+between_test : (x t : ℕ) → 1 ≤ x → x < t → (ltb 0 x && ltb x t) ≡ true
+between_test x t u h = rw (lt-ltb 0 x u, lt-ltb x t h)
 
-  pub before_unused : s.train.0 ≡ 0 → Between m t lo (lo + (hi - lo) / 2)
-  before_unused u =
-      record { inside = omega arith; low = b.low; high = omega (arith, place-most t (slots_in m), unused_past w.in_range.trains (lo + (hi - lo) / 2) (sym its_train ∙ u)) }
+outside_test : (x t : ℕ) → ((x ≡ 0 → ⊥) → x < t → ⊥) → (ltb 0 x && ltb x t) ≡ false
+outside_test x t h = grind (arith, nat_tests)
 
-  pub up_to_mid : t.0 ≤ s.train.0 → Between m t lo (lo + (hi - lo) / 2)
-  up_to_mid k = record { inside = omega arith; low = b.low; high = place_up_to t (slots_in m) (lo + (hi - lo) / 2) (omega (arith, its_train)) }
+module _ (m : List ℕ) (t : Train) (w : MemoWords m) (cs : List (List ℕ)) (cut_so : cs ≡ cut (room m) 3 m) where
+  as_many : length cs ≡ room m
+  as_many = ap length cut_so ∙ cut-length (room m) 3 m
 
-  pub after_mid : (s.train.0 ≡ 0 → ⊥) → s.train.0 < t.0 → Between m t (lo + (hi - lo) / 2 + 1) hi
-  after_mid u k =
-      record {
-        inside = b.inside;
-        low = omega (arith, place_after t (in_order (slots_in m) w.in_range.ascends) (lo + (hi - lo) / 2) (λ z. u (its_train ∙ z)) (omega (arith, its_train)));
-        high = b.high;
-      }
+  its_train : (i : ℕ) (d : List ℕ) → i < length cs → get_or (get_or cs i d) 0 0 ≡ (get_or (slots_in m) i no_slot).train.0
+  unfolding table slot_of
+  its_train i d h = ap (λ s. s.train.0) (sym (get_or-map slot_of cs i d no_slot h) ∙ ap (λ l. get_or (map slot_of l) i no_slot) cut_so ∙ memo_slot m w i)
 
-pub at_place : (m : List ℕ) (t : Train) (lo hi : ℕ) → Between m t lo hi → hi ≤ lo → lo ≡ place_for t (slots_in m)
-at_place m t lo hi b h = omega arith
+  -- the test tells whether the slot comes before the train's place
+  test_is : (i : ℕ) (d : List ℕ) → i < length cs → before t (get_or cs i d) ≡ ltb i (place_for t (slots_in m))
+  test_is i d h =
+      let same = its_train i d h in
+      let most = place-most t (slots_in m) in
+      elim (cases_lt i (place_for t (slots_in m))) [
+        | inl lt ↦
+            rw (lt-ltb i (place_for t (slots_in m)) lt, same)
+            (between_test _ t.0 (all_at w.in_range.trains i no_slot (omega arith)) (below_place t (slots_in m) i lt))
+        | inr le ↦
+            rw (le-ltb i (place_for t (slots_in m)) le, same)
+            (outside_test _ t.0 (λ u k. let past = place_after t (in_order (slots_in m) w.in_range.ascends) i u k in omega arith))
+      ]
+
+  pub parted : IsPartitionedBy (before t) cs
+  parted i j d h k e = test_is i d (omega arith) ∙ lt-ltb i _ (omega (arith, ltb-true j _ (sym (test_is j d k) ∙ e)))
+
+  pub place_found : (r : ℕ) → r ≤ length cs → IsPartitionPoint (λ y. before t y ≡ true) (λ y. before t y ≡ false) cs r → r ≡ place_for t (slots_in m)
+  place_found r h p =
+      let q = place_for t (slots_in m) in
+      let many = as_many in
+      let most = place-most t (slots_in m) in
+      elim (cases_lt r q) [
+        | inl lt ↦ let inside : r < length cs = omega (arith, w.in_range.used_most) in
+            absurd (false≢true (sym (p.1 r [] (omega arith) inside) ∙ test_is r [] inside ∙ lt-ltb r q lt))
+        | inr le ↦ elim (cases_lt q r) [
+          | inl lt ↦ absurd (false≢true (sym (test_is q [] (omega arith) ∙ le-ltb q q (omega arith)) ∙ p.0 q [] (omega arith) lt))
+          | inr ge ↦ omega arith
+        ]
+      ]
 
 -- ---- the slot at the place
+not_swapped : (b c : Bool) → not b ≡ c → b ≡ not c
+not_swapped true c e = ap not e
+not_swapped false c e = ap not e
+
+differs : (m n : ℕ) → not (eqb m n) ≡ true → m ≡ n → ⊥
+differs m n e = eqb-false m n (not_swapped (eqb m n) true e)
+
+agrees : (m n : ℕ) → not (eqb m n) ≡ false → m ≡ n
+agrees m n e = eqb-true m n (not_swapped (eqb m n) false e)
+
 module _ (m : List ℕ) (t : Train) (at : ℕ) (s : Slot) (w : MemoWords m) (p : at ≡ place_for t (slots_in m)) (e : s ≡ slot_at m at) where
   the_slot : get_or (slots_in m) (place_for t (slots_in m)) no_slot ≡ s
   the_slot = rw (← p) (sym (e ∙ memo_slot m w at))
 
-  pub none_used : s.train.0 ≡ 0 → Absent ≡ look_up t (slots_in m)
-  none_used u = sym (absent_past t w.in_range.trains (ap (λ r. r.train.0) the_slot ∙ u))
+  pub none_used : eqb s.train.0 0 ≡ true → Absent ≡ look_up t (slots_in m)
+  none_used u = sym (absent_past t w.in_range.trains (ap (λ r. r.train.0) the_slot ∙ eqb-true s.train.0 0 u))
 
-  pub another : (s.train.0 ≡ t.0 → ⊥) → Absent ≡ look_up t (slots_in m)
-  another d = sym (absent_there t (in_order (slots_in m) w.in_range.ascends) λ q. d (sym (ap (λ r. r.train.0) the_slot) ∙ q))
+  pub another : not (eqb s.train.0 t.0) ≡ true → Absent ≡ look_up t (slots_in m)
+  another d = sym (absent_there t (in_order (slots_in m) w.in_range.ascends) (λ q. differs s.train.0 t.0 d (sym (ap (λ r. r.train.0) the_slot) ∙ q)))
 
-  pub its_own : (s.train.0 ≡ 0 → ⊥) → s.train.0 ≡ t.0 → Found at s.latest s.old ≡ look_up t (slots_in m)
-  its_own u q =
-      rw (p, ← the_slot) (sym (found_there t (slots_in m) (λ z. u (q ∙ z)) (ap (λ r. r.train.0) the_slot ∙ q)))
+  pub its_own : eqb s.train.0 0 ≡ false → not (eqb s.train.0 t.0) ≡ false → Found at s.latest s.old ≡ look_up t (slots_in m)
+  its_own u d =
+      let same = agrees s.train.0 t.0 d in
+      rw (p, ← the_slot) (sym (found_there t (slots_in m) (λ z. eqb-false s.train.0 0 u (same ∙ z)) (ap (λ r. r.train.0) the_slot ∙ same)))

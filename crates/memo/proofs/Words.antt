@@ -1,37 +1,23 @@
 -- Laws of the memo's words: a slot read and written, and what its words are then.
-use Prim.Native.Nat.{ℕ, zero, suc, ◌+◌, ◌*◌, ◌≤◌, ◌<◌}
+use Prim.Native.Nat.{ℕ, zero, suc, ◌+◌, ◌-◌, ◌*◌, ◌≤◌, ◌<◌}
 use native.Mathlib.Omega.{arith}
-use native.Mathlib.Numerals.{towards_suc}
 use mathlib.Core.Path.{◌≡◌, refl, sym, ◌∙◌, ap}
-use mathlib.Core.List.{List, [], ◌∷◌, map, flat_map}
-use lib.ListN.{length, get_or, set, get_or-eq_default, length-set}
+use mathlib.Core.List.{List, [], ◌∷◌, ◌++◌, map, flat_map, append-nil}
+use lib.ListN.{length, get_or, set, take, drop, get_or-eq_default, length-set, length-map}
+use lib.Seq.{drop-drop}
+use Rattle.std.proofs.Common.{zero-add}
+use Rattle.std.proofs.lemmas.List.{get_or-map}
 use Rattle.rules.specs.declared.Slot.{Slot}
 use Rattle.rules.specs.Lists.{cut}
-use Rattle.rules.specs.Store.{memo_words, slot_of, slot_words, train, stamp}
-use Rattle.rules.specs.laws.Words.{no_slot, all_slots, padded_slots}
+use Rattle.rules.specs.Store.{memo_words, slot_of, slot_words}
+use Rattle.rules.specs.laws.Words.{no_slot, all_slots, padded_slots, slot_words-length}
+use Rattle.std.specs.List.{copy_within}
+use Rattle.rules.specs.laws.All.{always, flat_append}
+use Rattle.rules.specs.laws.Parts.{one_written}
 use Rattle.rules.specs.laws.Memo.{set-among}
+use borrow.Rule.Slice.PartMut.{put_mid}
 use Rattle.memo.specs.Laws.{slots_length, table_of_words, memo_table}
 use Rattle.memo.specs.Slots.{room, Whole, table, slots_in, MemoWords, with_slot}
-
--- ---- slots written as words
--- three words further on is one slot further on
-next_slot : (i : ℕ) → 3 * suc i ≡ suc (suc (suc (3 * i)))
-next_slot i = omega arith
-
-words_read : (xs : List Slot) (i : ℕ) → ◌≡◌ {A = Slot}
-    (record { train = train (get_or (flat_map slot_words xs) (3 * i) 0); latest = stamp (get_or (flat_map slot_words xs) (3 * i + 1) 0); old = get_or (flat_map slot_words xs) (3 * i + 2) 0 })
-    (get_or xs i no_slot)
-unfolding flat_map slot_words
-words_read [] i = refl
-words_read (x ∷ xs) zero = refl
-words_read (x ∷ xs) (suc i) = simp (next_slot, towards_suc) (simp towards_suc at (words_read xs i))
-
-words-put : (xs : List Slot) (i : ℕ) (s : Slot)
-    → set (set (set (flat_map slot_words xs) (3 * i) s.train.0) (3 * i + 1) s.latest.0) (3 * i + 2) s.old ≡ flat_map slot_words (set xs i s)
-unfolding flat_map slot_words
-words-put [] i s = refl
-words-put (x ∷ xs) zero s = refl
-words-put (x ∷ xs) (suc i) s = simp (next_slot, towards_suc) (ap (λ r. x.train.0 ∷ x.latest.0 ∷ x.old ∷ r) (simp towards_suc at (words-put xs i s)))
 
 -- ---- words read as slots
 cut-words : (k : ℕ) (m : List ℕ) → 3 * k ≡ length m → flat_map slot_words (map slot_of (cut k 3 m)) ≡ m
@@ -52,30 +38,61 @@ module _ (m : List ℕ) (w : Whole m) where
   pub table-length : length (table m) ≡ room m
   table-length = omega (arith, slots_length (table m), ap length words_of-table)
 
-  -- a slot's three words, read and written
-  pub slot_there : (i : ℕ) → ◌≡◌ {A = Slot}
-      (record { train = train (get_or m (3 * i) 0); latest = stamp (get_or m (3 * i + 1) 0); old = get_or m (3 * i + 2) 0 }) (get_or (table m) i no_slot)
-  slot_there i = rw words_of-table at (words_read (table m) i)
-
-  pub slot-put : (i : ℕ) (s : Slot) → set (set (set m (3 * i) s.train.0) (3 * i + 1) s.latest.0) (3 * i + 2) s.old ≡ with_slot m i s
+  -- one slot's words written
+  pub slot_written : (i k : ℕ) (s : Slot) (ws : List ℕ) → i < room m → k ≡ 3 → ws ≡ slot_words s → put_mid (3 * i) k m ws ≡ with_slot m i s
   unfolding with_slot
-  slot-put i s = rw words_of-table at (words-put (table m) i s)
+  slot_written i k s ws h e q =
+      let n = table-length in
+      let there : flat_map slot_words (table m) ++ [] ≡ m = append-nil _ ∙ words_of-table in
+      let written : flat_map slot_words (set (table m) i s) ++ [] ≡ take (3 * i) m ++ (slot_words s ++ drop (3 * i + 3) m) =
+      rw (there, zero-add (3 * i)) at (one_written slot_words 3 [] [] 0 refl (always slot_words-length (table m)) i (omega arith) s) in
+      rw (e, q, drop-drop 3 (3 * i) m) (sym (sym (append-nil _) ∙ written))
 
 -- the slots after another one is written
 pub table-put : (m : List ℕ) (i : ℕ) (s : Slot) → table (with_slot m i s) ≡ set (table m) i s
 unfolding with_slot
 table-put m i s = table_of_words (set (table m) i s)
 
--- a slot that there is room for has its words
-pub second_inside : (m : List ℕ) (i : ℕ) → i < room m → 3 * i + 1 < length m
-second_inside m i h = omega arith
+-- a slot read from its words; past the end there are unused slots
+module _ (m : List ℕ) (cs : List (List ℕ)) (i : ℕ) (s : Slot) (cut_so : cs ≡ cut (room m) 3 m) where
+  pub slot_read : (c : List ℕ) → i < length cs → c ≡ get_or cs i c → s ≡ slot_of c → s ≡ get_or (table m) i no_slot
+  unfolding table
+  slot_read c h e q = rw (← cut_so) (q ∙ ap slot_of e ∙ sym (get_or-map slot_of cs i c no_slot h))
 
-pub third_inside : (m : List ℕ) (i : ℕ) → i < room m → 3 * i + 2 < length m
-third_inside m i h = omega arith
+  pub slot_past : length cs ≤ i → s ≡ no_slot → s ≡ get_or (table m) i no_slot
+  unfolding table
+  slot_past h e = rw (← cut_so) (e ∙ sym (get_or-eq_default (map slot_of cs) no_slot (rw length-map h)))
 
--- past the end there are unused slots
-pub slot_past : (m : List ℕ) (i : ℕ) (s : Slot) → Whole m → room m ≤ i → s ≡ no_slot → s ≡ get_or (table m) i no_slot
-slot_past m i s w h e = e ∙ sym (get_or-eq_default (table m) no_slot (omega (arith, table-length m w)))
+-- ---- several slots moved
+-- three words further on is one slot further on
+next_slot : (i : ℕ) → 3 * suc i ≡ suc (suc (suc (3 * i)))
+next_slot i = omega arith
+
+take_slots : (n : ℕ) (xs : List Slot) → take (3 * n) (flat_map slot_words xs) ≡ flat_map slot_words (take n xs)
+unfolding flat_map slot_words
+take_slots zero xs = refl
+take_slots (suc n) [] = rw (next_slot n)
+take_slots (suc n) (x ∷ xs) = rw (next_slot n) (ap (λ r. x.train.0 ∷ x.latest.0 ∷ x.old ∷ r) (take_slots n xs))
+
+drop_slots : (n : ℕ) (xs : List Slot) → drop (3 * n) (flat_map slot_words xs) ≡ flat_map slot_words (drop n xs)
+unfolding flat_map slot_words
+drop_slots zero xs = refl
+drop_slots (suc n) [] = rw (next_slot n)
+drop_slots (suc n) (x ∷ xs) = rw (next_slot n) (drop_slots n xs)
+
+slots_moved : (xs : List Slot) (a b c : ℕ) → copy_within (flat_map slot_words xs) (3 * a) (3 * b) (3 * c) ≡ flat_map slot_words (copy_within xs a b c)
+slots_moved xs a b c =
+    let many : 3 * b - 3 * a ≡ 3 * (b - a) = omega arith in
+    let behind : 3 * c + 3 * (b - a) ≡ 3 * (c + (b - a)) = omega arith in
+    rw (many, behind, drop_slots, drop_slots, take_slots, take_slots, ← flat_append, ← flat_append)
+
+-- slots moved, and one written then
+module _ (m m₁ m₂ : List ℕ) (w : Whole m) (a b c i : ℕ) (s : Slot) (moved : m₁ ≡ copy_within m (3 * a) (3 * b) (3 * c)) (put : m₂ ≡ with_slot m₁ i s) where
+  pub moved_written : (ms : List Slot) → length ms ≤ room m → set (copy_within (table m) a b c) i s ≡ all_slots (room m) ms → m₂ ≡ memo_words (room m) ms
+  unfolding with_slot
+  moved_written ms h e =
+      let words : m₁ ≡ flat_map slot_words (copy_within (table m) a b c) = moved ∙ rw words_of-table at (slots_moved (table m) a b c) in
+      put ∙ rw (words, table_of_words, e) (sym (padded_slots (room m) ms h))
 
 -- ---- a memo's words
 pub memo_put : (m : List ℕ) → MemoWords m → (i : ℕ) (s : Slot) → i < length (slots_in m) → with_slot m i s ≡ memo_words (room m) (set (slots_in m) i s)

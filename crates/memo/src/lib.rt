@@ -13,75 +13,49 @@ ghost use Rattle.memo.specs.Slots.{HoldsMemo, Inspected, MemoWords, Whole, room,
 ghost use Rattle.memo.specs.Slots as slots;
 ghost use Rattle.rules.specs.Memo as spec_memo;
 
+use rules::part::Part;
 use rules::{Entry, LookUp, Slot, Stamp, Train};
 
 // The memo's part of a store.
+#[tactic(auto, using(crate::proofs::Lent::header_long, crate::proofs::Lent::pages_few, crate::proofs::Lent::slots_few, crate::proofs::Lent::part_fits, crate::proofs::Lent::part_ordered, crate::proofs::Lent::part_inside, crate::proofs::Lent::part_is_memo))]
 pub fn part(store: &[u32]) -> &[u32]
     requires { HoldsMemo store.now }
     ensures { result.now ≡ memo_words (store_of store.now).slots (store_of store.now).memo }
 {
     let p = header::pages(store);
     let k = header::slots(store);
-    let a = header::memo_start(p);
-    let e = header::boards_start(p, k);
-    &store[a..e]
-}
-
-// What a slot is that no train has.
-fn unused() -> Slot
-    ensures { result ≡ no_slot }
-{
-    Slot {
-        train: Train(0),
-        latest: Stamp(0),
-        old: 0,
-    }
+    &store[header::memo_start(p)..header::boards_start(p, k)]
 }
 
 // The slot at a place, used or not; past the end there are unused ones.
+#[tactic(auto, using(crate::proofs::Words::slot_read, crate::proofs::Words::slot_past))]
 pub fn slot_at(memo: &[u32], i: usize) -> Slot
     requires { Whole memo.now }
     ensures { result ≡ slot_at memo.now i }
 {
-    if memo.len() / 3 <= i {
-        return unused();
-    }
-    Slot {
-        train: Train(memo[3 * i]),
-        latest: Stamp(memo[3 * i + 1]),
-        old: memo[3 * i + 2],
+    match memo.as_chunks::<3>().0.get(i) {
+        Some(slot) => Slot::read(slot),
+        None => Slot::default(),
     }
 }
 
 // Writes the three words of one slot.
+#[tactic(auto, using(crate::proofs::Words::slot_written))]
 fn put_slot(memo: &mut [u32], i: usize, s: Slot)
     requires { Whole memo.old × (i < room memo.old) }
     ensures { memo.new ≡ with_slot memo.old i s }
 {
-    memo[3 * i] = s.train.0;
-    memo[3 * i + 1] = s.latest.0;
-    memo[3 * i + 2] = s.old;
+    s.write(&mut memo[3 * i..3 * i + 3]);
 }
 
 // Where the train's slot is, or would be: an unused slot counts as above every train.
 fn place_for(memo: &[u32], t: Train) -> usize
     requires { MemoWords memo.now }
-    ensures { result ≡ slots.place_for t (slots_in memo.now) }
+    ensures place { result ≡ slots.place_for t (slots_in memo.now) }
+    ensures within { result ≤ length (slots_in memo.now) }
 {
-    let mut lo: usize = 0;
-    let mut hi = memo.len() / 3;
-    while lo < hi {
-        let mid = lo + (hi - lo) / 2;
-        let s = slot_at(memo, mid);
-        if s.train.0 == 0 {
-            hi = mid;
-        } else if s.train.0 < t.0 {
-            lo = mid + 1;
-        } else {
-            hi = mid;
-        }
-    }
-    lo
+    let (slots, _) = memo.as_chunks::<3>();
+    slots.partition_point(|slot| 0 < slot[0] && slot[0] < t.0)
 }
 
 // Whether the train has a slot, and which.
@@ -89,87 +63,68 @@ pub fn look_up(memo: &[u32], t: Train) -> LookUp
     requires { MemoWords memo.now }
     ensures { result ≡ look_up t (slots_in memo.now) }
 {
-    let at = place_for(memo, t);
-    let s = slot_at(memo, at);
-    if s.train.0 == 0 {
+    let place = place_for(memo, t);
+    let s = slot_at(memo, place);
+    if s.train == Train(0) || s.train != t {
         return LookUp::Absent;
     }
-    if s.train.0 != t.0 {
-        return LookUp::Absent;
-    }
-    let latest = s.latest;
     LookUp::Found {
-        place: at,
-        latest,
+        place,
+        latest: s.latest,
         old: s.old,
     }
 }
 
 // Whether no later report or withdrawal of its train makes the entry an old one.
+#[tactic(auto, using(crate::proofs::Answers::absent_latest))]
 pub fn is_latest(memo: &[u32], e: Entry) -> bool
     requires { MemoWords memo.now }
     ensures { result ≡ spec_memo.is_latest (slots_in memo.now) e }
 {
-    let LookUp::Found {
-        place: _,
-        latest,
-        old: _,
-    } = look_up(memo, Train(e.key))
-    else {
+    let LookUp::Found { latest, .. } = look_up(memo, Train(e.key)) else {
         return true;
     };
-    e.stamp.0 == latest.0
+    e.stamp == latest
 }
 
 // Whether every slot is used: those that are come first, so the last one tells.
+#[tactic(auto, using(crate::proofs::Inspection::full_or_not))]
 pub fn is_full(memo: &[u32]) -> bool
     requires { MemoWords memo.now × (1 ≤ room memo.now) }
     ensures { result ≡ leb (room memo.now) (length (slots_in memo.now)) }
 {
-    let last = slot_at(memo, memo.len() / 3 - 1);
-    last.train.0 != 0
+    slot_at(memo, memo.len() / 3 - 1).train != Train(0)
 }
 
-// Puts a new train's slot in: it goes in for the one at its place, that one for the next, and so on to the end.
+// Puts a new train's slot in at its place: those from there on move up by one, and the last, an unused one, goes.
 fn insert(memo: &mut [u32], new: Slot)
     requires memo_words { MemoWords memo.old }
     requires absent_with_room { (look_up new.train (slots_in memo.old) ≡ Absent) × (length (slots_in memo.old) < room memo.old) }
     ensures { memo.new ≡ memo_words (room memo.old) (slot_inserted new (slots_in memo.old)) }
 {
-    let t = new.train;
-    let at = place_for(memo, t);
-    let mut carried = new;
-    for i in at..memo.len() / 3 {
-        let next = slot_at(memo, i);
-        put_slot(memo, i, carried);
-        carried = next;
-    }
+    let at = place_for(memo, new.train);
+    memo.copy_within(3 * at..memo.len() - 3, 3 * at + 3);
+    put_slot(memo, at, new);
 }
 
-// Takes the slot at a place away: the next one goes in for it, and so on to the end.
+// Takes the slot at a place away: those behind it move down by one, and an unused one comes last.
 fn remove(memo: &mut [u32], at: usize)
     requires { MemoWords memo.old × (at < length (slots_in memo.old)) }
     ensures { memo.new ≡ memo_words (room memo.old) (without (slots_in memo.old) at) }
 {
-    for i in at..memo.len() / 3 {
-        let next = slot_at(memo, i + 1);
-        put_slot(memo, i, next);
-    }
+    memo.copy_within(3 * at + 3.., 3 * at);
+    put_slot(memo, memo.len() / 3 - 1, Slot::default());
 }
 
 // Notes that this stamp of the train is the latest, which makes one more entry of it an old one.
+#[tactic(auto, using(crate::proofs::Answers::so_absent, crate::proofs::Answers::so_room, crate::proofs::Answers::noted_new, crate::proofs::Answers::rise_fits, crate::proofs::Answers::so_inside))]
 pub fn note(memo: &mut [u32], t: Train, stamp: Stamp)
     requires memo_words { MemoWords memo.old }
     requires room_if_absent { look_up t (slots_in memo.old) ≡ Absent → length (slots_in memo.old) < room memo.old }
     requires counts_below_limit { All (λ m. m.old < limit) (slots_in memo.old) }
     ensures { memo.new ≡ memo_words (room memo.old) (noted t stamp (slots_in memo.old)) }
 {
-    let LookUp::Found {
-        place,
-        latest: _,
-        old,
-    } = look_up(memo, t)
-    else {
+    let LookUp::Found { place, old, .. } = look_up(memo, t) else {
         let made = Slot {
             train: t,
             latest: stamp,
@@ -187,6 +142,7 @@ pub fn note(memo: &mut [u32], t: Train, stamp: Stamp)
 }
 
 // Lowers the train's old count by one, and frees its slot at 0.
+#[tactic(auto, using(crate::proofs::Answers::so_used, crate::proofs::Answers::so_inside, crate::proofs::Answers::lowered_none))]
 pub fn lower(memo: &mut [u32], t: Train)
     requires { MemoWords memo.old }
     ensures { memo.new ≡ memo_words (room memo.old) (lowered t (slots_in memo.old)) }
@@ -211,19 +167,19 @@ pub fn inspect(memo: &mut [u32], mark: Stamp) -> usize
     requires { MemoWords memo.old }
     ensures { Inspected memo.old mark result memo.new }
 {
-    let mut kept: usize = 0;
-    let mut i = 0;
-    while i < memo.len() / 3 {
+    let slots = memo.len() / 3;
+    let mut kept = 0;
+    for i in 0..slots {
         let s = slot_at(memo, i);
-        if s.train.0 == 0 {
+        if s.train == Train(0) {
             return i - kept;
         }
-        put_slot(memo, i, unused());
-        i += 1;
-        if mark.0 <= s.latest.0 {
+        put_slot(memo, i, Slot::default());
+        let stays = mark <= s.latest;
+        if stays {
             put_slot(memo, kept, s);
             kept += 1;
         }
     }
-    i - kept
+    slots - kept
 }

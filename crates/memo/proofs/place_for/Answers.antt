@@ -1,0 +1,13 @@
+-- `memo::place_for` meets its contract.
+use Rattle.std.proofs.Common.{arith, rules, tests}
+use Rattle.std.proofs.lemmas.List.Sorted.{IsPartitionPoint-from_clause}
+use Rattle.memo.specs.Slots.{slots_in}
+use Rattle.memo.proofs.Places.{before, parted, place_found, place-most}
+use Rattle.memo.proofs.place_for.Goals as goal
+
+pub returns : goal.returns
+returns c =
+    let m = c.args.memo.now in
+    let here = place_found m c.args.t c.requires c.as_chunks.result.0.now c.as_chunks.ensures.front c.partition_point.result c.partition_point.ensures.bound
+    (IsPartitionPoint-from_clause (before c.args.t) _ c.partition_point.result c.partition_point.ensures.partitioned (parted m c.args.t c.requires c.as_chunks.result.0.now c.as_chunks.ensures.front) (λ a r f k. search (rules, tests))) in
+    record { place = here; within = omega (arith, here, place-most c.args.t (slots_in m)) }
