@@ -1,4 +1,5 @@
 -- What a place, a report and a withdrawal come to in a board's words. Assumes nothing.
+use Rattle.std.specs.Prelude.{Result, Ok, Err}
 use Prim.Native.Nat.{ℕ, ◌≤◌, ◌<◌}
 use native.Mathlib.Omega.{arith}
 use mathlib.Core.Path.{◌≡◌, sym, ap, ◌∙◌}
@@ -15,47 +16,45 @@ use Rattle.rules.specs.Store.{row_limit, board_words, board_of}
 use Rattle.rules.specs.Live.{row_inserted, row_removed}
 use Rattle.rules.specs.Boards.{is_open, lists, with_rows, told, untold, overfull}
 use Rattle.rules.specs.laws.Rows.{RowsAscend, told-closed, told_met, told_missed, untold-closed, untold_open, removed_fewer}
-use Rattle.board.specs.declared.RowAt.{RowAt}
-use Rattle.board.specs.declared.RowAt.TheVariants.{Listed, Unlisted}
 use Rattle.board.specs.Rows.{BoardWords, Became, put, row_place, is_listed, removed_at}
 use Rattle.board.specs.Laws.{listed_there, removed_there, listed_inside, unlisted_inside, listed_set, unlisted_put, listed_length, unlisted_length, told-most}
 
 -- ---- the place that was found
-module _ (w : List ℕ) (t : Train) (p : RowAt) (its : p ≡ row_place t (board_of w).rows) (i : ℕ) where
-  pub listed_here : p ≡ Listed i → i < length (board_of w).rows
+module _ (w : List ℕ) (t : Train) (p : Result ℕ ℕ) (its : p ≡ row_place t (board_of w).rows) (i : ℕ) where
+  pub listed_here : p ≡ Ok i → i < length (board_of w).rows
   listed_here e = listed_inside t (board_of w).rows i (sym its ∙ e)
 
-  pub unlisted_here : p ≡ Unlisted i → i ≤ length (board_of w).rows
+  pub unlisted_here : p ≡ Err i → i ≤ length (board_of w).rows
   unlisted_here e = unlisted_inside t (board_of w).rows i (sym its ∙ e)
 
   module _ (ascend : RowsAscend (board_of w).rows) where
-    pub listed_true : p ≡ Listed i → true ≡ lists t (board_of w)
+    pub listed_true : p ≡ Ok i → true ≡ lists t (board_of w)
     unfolding is_listed
     listed_true e = ap is_listed (sym e ∙ its) ∙ sym (listed_there t (board_of w) ascend)
 
-    pub unlisted_false : p ≡ Unlisted i → false ≡ lists t (board_of w)
+    pub unlisted_false : p ≡ Err i → false ≡ lists t (board_of w)
     unfolding is_listed
     unlisted_false e = ap is_listed (sym e ∙ its) ∙ sym (listed_there t (board_of w) ascend)
 
     removed : row_removed t (board_of w).rows ≡ removed_at p (board_of w).rows
     removed = removed_there t ascend ∙ ap (λ q. removed_at q (board_of w).rows) (sym its)
 
-    pub listed_removed : (u : List ℕ) → p ≡ Listed i → Became w (without (board_of w).rows i) u → u ≡ board_words (with_rows (row_removed t (board_of w).rows) (board_of w))
+    pub listed_removed : (u : List ℕ) → p ≡ Ok i → Became w (without (board_of w).rows i) u → u ≡ board_words (with_rows (row_removed t (board_of w).rows) (board_of w))
     unfolding removed_at
     listed_removed u e new = rw (removed, e) new.written
 
-    pub unlisted_removed : BoardWords w → p ≡ Unlisted i → w ≡ board_words (with_rows (row_removed t (board_of w).rows) (board_of w))
+    pub unlisted_removed : BoardWords w → p ≡ Err i → w ≡ board_words (with_rows (row_removed t (board_of w).rows) (board_of w))
     unfolding removed_at
     unlisted_removed is e = sym (rw (removed, e) is.same)
 
-module _ (w : List ℕ) (r : Row) (p : RowAt) (its : p ≡ row_place r.train (board_of w).rows) (i : ℕ) where
-  pub listed_inserted : (u : List ℕ) → p ≡ Listed i → Became w (set (board_of w).rows i r) u → u ≡ board_words (with_rows (row_inserted r (board_of w).rows) (board_of w))
+module _ (w : List ℕ) (r : Row) (p : Result ℕ ℕ) (its : p ≡ row_place r.train (board_of w).rows) (i : ℕ) where
+  pub listed_inserted : (u : List ℕ) → p ≡ Ok i → Became w (set (board_of w).rows i r) u → u ≡ board_words (with_rows (row_inserted r (board_of w).rows) (board_of w))
   listed_inserted u e new = rw (listed_set r (board_of w).rows i (sym its ∙ e)) new.written
 
-  pub unlisted_inserted : (u : List ℕ) → p ≡ Unlisted i → Became w (put (board_of w).rows i r) u → u ≡ board_words (with_rows (row_inserted r (board_of w).rows) (board_of w))
+  pub unlisted_inserted : (u : List ℕ) → p ≡ Err i → Became w (put (board_of w).rows i r) u → u ≡ board_words (with_rows (row_inserted r (board_of w).rows) (board_of w))
   unlisted_inserted u e new = rw (unlisted_put r (board_of w).rows i (sym its ∙ e)) new.written
 
-  pub unlisted_room : p ≡ Unlisted i → length (row_inserted r (board_of w).rows) ≤ row_limit → length (board_of w).rows < row_limit
+  pub unlisted_room : p ≡ Err i → length (row_inserted r (board_of w).rows) ≤ row_limit → length (board_of w).rows < row_limit
   unlisted_room e h = omega (arith, unlisted_length r (board_of w).rows i (sym its ∙ e))
 
 -- ---- a report
@@ -97,14 +96,14 @@ module _ (w : List ℕ) (r : Row) where
           let few = is.few in
           rw (removes q) (sym (le-ltb row_limit (length (row_removed r.train (board_of w).rows)) (omega (arith, removed_fewer r.train (board_of w).rows))))
 
-      module _ (q : m ≡ true) (p : RowAt) (there : p ≡ row_place r.train (board_of w).rows) (i : ℕ) where
-        pub listed_full : BoardWords w → p ≡ Listed i → false ≡ overfull r (board_of w)
+      module _ (q : m ≡ true) (p : Result ℕ ℕ) (there : p ≡ row_place r.train (board_of w).rows) (i : ℕ) where
+        pub listed_full : BoardWords w → p ≡ Ok i → false ≡ overfull r (board_of w)
         unfolding overfull
         listed_full is l =
             let few = is.few in
             rw (inserts q) (sym (le-ltb row_limit (length (row_inserted r (board_of w).rows)) (omega (arith, listed_length r (board_of w).rows i (sym there ∙ l)))))
 
-        pub unlisted_full : (n : ℕ) → n ≡ length (board_of w).rows → row_limit ≤ n → p ≡ Unlisted i → true ≡ overfull r (board_of w)
+        pub unlisted_full : (n : ℕ) → n ≡ length (board_of w).rows → row_limit ≤ n → p ≡ Err i → true ≡ overfull r (board_of w)
         unfolding overfull
         unlisted_full n k h l =
             rw (inserts q) (sym (lt-ltb row_limit (length (row_inserted r (board_of w).rows)) (omega (arith, unlisted_length r (board_of w).rows i (sym there ∙ l)))))

@@ -1,5 +1,5 @@
 -- Laws of a board's own words and of the place where a row stands among its rows.
-use Rattle.std.specs.Prelude.{ℕ, suc, ◌+◌, ◌*◌, ◌≤◌, ◌<◌, ◌≡◌, refl, Bool, true, false, cond, List, [], ◌∷◌, eqb, ltb, length, take, drop, set}
+use Rattle.std.specs.Prelude.{ℕ, Result, Ok, Err, suc, ◌+◌, ◌*◌, ◌≤◌, ◌<◌, ◌≡◌, refl, Bool, true, false, cond, List, [], ◌∷◌, eqb, ltb, length, take, drop, set}
 use Rattle.std.proofs.Common.{arith, sym, ap, ◌∙◌, length-append, length-set, length-drop, length-take-le, ltb-true, ltb-false, eqb-true, lt-ltb, le-ltb, eq-eqb, ne_eqb}
 use Rattle.std.proofs.lemmas.Bool.{eqb-false}
 use Rattle.rules.specs.declared.Train.{Train}
@@ -15,8 +15,6 @@ use Rattle.rules.specs.laws.Kept.{keep_yes, keep_no}
 use Rattle.rules.specs.laws.Words.{Fits, board_words-length, board_read}
 use Rattle.rules.specs.laws.Parts.{board_words_there, board_fits}
 use Rattle.rules.specs.laws.Rows.{RowsAscend, r_none, r_more, no_one, removed_absent, removed_fewer}
-use Rattle.board.specs.declared.RowAt.{RowAt}
-use Rattle.board.specs.declared.RowAt.TheVariants.{Listed, Unlisted}
 use Rattle.board.specs.Rows.{BoardWords, put, further, row_place, is_listed, inserted_at, removed_at}
 
 -- ---- words
@@ -30,14 +28,14 @@ board_lent s fits i h = rw (board_words_there s fits i h) (board_is (board_at s 
 
 -- ---- the place
 -- before the first row, at it, or further on
-place-case : (P : RowAt → Type 0) (t : Train) (q : Row) (qs : List Row)
-    → (t.0 < q.train.0 → P (Unlisted 0)) → (t.0 ≡ q.train.0 → P (Listed 0))
+place-case : (P : Result ℕ ℕ → Type 0) (t : Train) (q : Row) (qs : List Row)
+    → (t.0 < q.train.0 → P (Err 0)) → (t.0 ≡ q.train.0 → P (Ok 0))
     → (q.train.0 < t.0 → P (further (row_place t qs))) → P (row_place t (q ∷ qs))
 unfolding row_place
 place-case P t q qs below same above = go (ltb t.0 q.train.0) refl (eqb t.0 q.train.0) refl
   where
     go : (b : Bool) → ltb t.0 q.train.0 ≡ b → (c : Bool) → eqb t.0 q.train.0 ≡ c
-        → P (cond b (Unlisted 0) (cond c (Listed 0) (further (row_place t qs))))
+        → P (cond b (Err 0) (cond c (Ok 0) (further (row_place t qs))))
     go true e c f = below (ltb-true _ _ e)
     go false e true f = same (eqb-true _ _ f)
     go false e false f = above (omega (arith, ltb-false, eqb-false))
@@ -52,9 +50,9 @@ inserted_there r (q ∷ qs) =
     (λ e. rw (le-ltb r.train.0 q.train.0 (omega arith), eq-eqb _ _ e))
     (λ e. rw (le-ltb r.train.0 q.train.0 (omega arith), ne_eqb r.train.0 q.train.0 (omega arith)) (ap (λ l. q ∷ l) (inserted_there r qs) ∙ past (row_place r.train qs)))
   where
-    past : (p : RowAt) → q ∷ inserted_at r p qs ≡ inserted_at r (further p) (q ∷ qs)
-    past (Listed i) = refl
-    past (Unlisted i) = refl
+    past : (p : Result ℕ ℕ) → q ∷ inserted_at r p qs ≡ inserted_at r (further p) (q ∷ qs)
+    past (Ok i) = refl
+    past (Err i) = refl
 
 -- removing a train's row, where rows ascend, is taking it from there
 pub removed_there : (t : Train) {rs : List Row} → RowsAscend rs → row_removed t rs ≡ removed_at (row_place t rs) rs
@@ -69,18 +67,18 @@ removed_there t (r_more {r = q} {rs = qs} h a) =
     gone : t.0 ≤ q.train.0 → row_removed t qs ≡ qs
     gone k = removed_absent t (all_map h λ r l. omega arith)
 
-    past : (p : RowAt) → q ∷ removed_at p qs ≡ removed_at (further p) (q ∷ qs)
-    past (Listed i) = refl
-    past (Unlisted i) = refl
+    past : (p : Result ℕ ℕ) → q ∷ removed_at p qs ≡ removed_at (further p) (q ∷ qs)
+    past (Ok i) = refl
+    past (Err i) = refl
 
 -- and there it shows whether the train is listed
 pub listed_there : (t : Train) (b : Board) → RowsAscend b.rows → lists t b ≡ is_listed (row_place t b.rows)
 unfolding lists is_listed row_place further
 listed_there t b a = go a
   where
-    past : (p : RowAt) → is_listed p ≡ is_listed (further p)
-    past (Listed i) = refl
-    past (Unlisted i) = refl
+    past : (p : Result ℕ ℕ) → is_listed p ≡ is_listed (further p)
+    past (Ok i) = refl
+    past (Err i) = refl
 
     go : {rs : List Row} → RowsAscend rs → some_one (λ r. eqb r.train.0 t.0) rs ≡ is_listed (row_place t rs)
     go r_none = refl
@@ -91,9 +89,9 @@ listed_there t b a = go a
         (λ e. rw (ne_eqb q.train.0 t.0 (omega arith)) (go a ∙ past (row_place t qs)))
 
 -- it is no further than behind the last row
-abbrev Within : RowAt → ℕ → Type 0
-Within (Listed i) n = i < n
-Within (Unlisted i) n = i ≤ n
+abbrev Within : Result ℕ ℕ → ℕ → Type 0
+Within (Ok i) n = i < n
+Within (Err i) n = i ≤ n
 
 place_within : (t : Train) (rs : List Row) → Within (row_place t rs) (length rs)
 unfolding row_place further
@@ -101,9 +99,9 @@ place_within t [] = omega arith
 place_within t (q ∷ qs) =
     place-case (λ p. Within p (suc (length qs))) t q qs (λ e. omega arith) (λ e. omega arith) (λ e. past (row_place t qs) (place_within t qs))
   where
-    past : (p : RowAt) → Within p (length qs) → Within (further p) (suc (length qs))
-    past (Listed i) h = omega arith
-    past (Unlisted i) h = omega arith
+    past : (p : Result ℕ ℕ) → Within p (length qs) → Within (further p) (suc (length qs))
+    past (Ok i) h = omega arith
+    past (Err i) h = omega arith
 
 pub put-length : {A : Type 0} (xs : List A) (i : ℕ) (x : A) → i ≤ length xs → length (put xs i x) ≡ length xs + 1
 unfolding put
@@ -111,35 +109,35 @@ put-length xs i x h = let e = length-take-le i xs h in simp (length-append, leng
 
 -- the same of a place that was found
 module _ (t : Train) (rs : List Row) (i : ℕ) where
-  pub listed_inside : row_place t rs ≡ Listed i → i < length rs
+  pub listed_inside : row_place t rs ≡ Ok i → i < length rs
   listed_inside e = rw e at (place_within t rs)
 
-  pub unlisted_inside : row_place t rs ≡ Unlisted i → i ≤ length rs
+  pub unlisted_inside : row_place t rs ≡ Err i → i ≤ length rs
   unlisted_inside e = rw e at (place_within t rs)
 
 module _ (r : Row) (rs : List Row) (i : ℕ) where
-  pub listed_set : row_place r.train rs ≡ Listed i → row_inserted r rs ≡ set rs i r
+  pub listed_set : row_place r.train rs ≡ Ok i → row_inserted r rs ≡ set rs i r
   unfolding inserted_at
   listed_set e = rw e at (inserted_there r rs)
 
-  pub unlisted_put : row_place r.train rs ≡ Unlisted i → row_inserted r rs ≡ put rs i r
+  pub unlisted_put : row_place r.train rs ≡ Err i → row_inserted r rs ≡ put rs i r
   unfolding inserted_at
   unlisted_put e = rw e at (inserted_there r rs)
 
   -- so a row more is needed only where the train has none
-  pub listed_length : row_place r.train rs ≡ Listed i → length (row_inserted r rs) ≡ length rs
+  pub listed_length : row_place r.train rs ≡ Ok i → length (row_inserted r rs) ≡ length rs
   listed_length e = rw (listed_set e) (length-set rs i r)
 
-  pub unlisted_length : row_place r.train rs ≡ Unlisted i → length (row_inserted r rs) ≡ length rs + 1
+  pub unlisted_length : row_place r.train rs ≡ Err i → length (row_inserted r rs) ≡ length rs + 1
   unlisted_length e = rw (unlisted_put e) (put-length rs i r (unlisted_inside r.train rs i e))
 
 -- a report needs at most one row more
 inserted-most : (r : Row) (rs : List Row) → length (row_inserted r rs) ≤ length rs + 1
 inserted-most r rs = go (row_place r.train rs) refl
   where
-    go : (p : RowAt) → row_place r.train rs ≡ p → length (row_inserted r rs) ≤ length rs + 1
-    go (Listed i) e = omega (arith, listed_length r rs i e)
-    go (Unlisted i) e = omega (arith, unlisted_length r rs i e)
+    go : (p : Result ℕ ℕ) → row_place r.train rs ≡ p → length (row_inserted r rs) ≤ length rs + 1
+    go (Ok i) e = omega (arith, listed_length r rs i e)
+    go (Err i) e = omega (arith, unlisted_length r rs i e)
 
 pub told-most : (r : Row) (b : Board) → length (told r b).rows ≤ length b.rows + 1
 unfolding told

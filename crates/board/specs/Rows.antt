@@ -1,12 +1,10 @@
 -- A board's own words, and where a train's row stands among its rows.
-use Rattle.std.specs.Prelude.{ℕ, suc, ◌≤◌, ◌≡◌, Bool, true, false, cond, List, [], ◌∷◌, ◌++◌, eqb, ltb, length, take, drop, set}
+use Rattle.std.specs.Prelude.{ℕ, Result, Ok, Err, suc, ◌≤◌, ◌≡◌, Bool, true, false, cond, List, [], ◌∷◌, ◌++◌, eqb, ltb, length, take, drop, set}
 use Rattle.rules.specs.declared.Train.{Train}
 use Rattle.rules.specs.declared.Row.{Row}
 use Rattle.rules.specs.Lists.{without}
 use Rattle.rules.specs.Store.{row_limit, board_words, board_of}
 use Rattle.rules.specs.Boards.{with_rows}
-use Rattle.board.specs.declared.RowAt.{RowAt}
-use Rattle.board.specs.declared.RowAt.TheVariants.{Listed, Unlisted}
 
 -- the words of a board: at most sixteen rows, and zero after them
 pub record BoardWords (w : List ℕ) : Type 0 where
@@ -25,25 +23,25 @@ unfoldable pub put : {A : Type 0} → List A → ℕ → A → List A
 put xs i x = take i xs ++ (x ∷ drop i xs)
 
 -- ---- where a train's row stands, or where it would come
-unfoldable pub further : RowAt → RowAt
-further (Listed i) = Listed (suc i)
-further (Unlisted i) = Unlisted (suc i)
+unfoldable pub further : Result ℕ ℕ → Result ℕ ℕ
+further (Ok i) = Ok (suc i)
+further (Err i) = Err (suc i)
 
-unfoldable pub row_place : Train → List Row → RowAt
-row_place t [] = Unlisted 0
+unfoldable pub row_place : Train → List Row → Result ℕ ℕ
+row_place t [] = Err 0
 row_place t (q ∷ qs) =
     let later = row_place t qs in
-    cond (ltb t.0 q.train.0) (Unlisted 0) (cond (eqb t.0 q.train.0) (Listed 0) (further later))
+    cond (ltb t.0 q.train.0) (Err 0) (cond (eqb t.0 q.train.0) (Ok 0) (further later))
 
 -- what a place says of the train, and what inserting and removing its row come to
-unfoldable pub is_listed : RowAt → Bool
-is_listed (Listed i) = true
-is_listed (Unlisted i) = false
+unfoldable pub is_listed : Result ℕ ℕ → Bool
+is_listed (Ok i) = true
+is_listed (Err i) = false
 
-unfoldable pub inserted_at : Row → RowAt → List Row → List Row
-inserted_at r (Listed i) rows = set rows i r
-inserted_at r (Unlisted i) rows = put rows i r
+unfoldable pub inserted_at : Row → Result ℕ ℕ → List Row → List Row
+inserted_at r (Ok i) rows = set rows i r
+inserted_at r (Err i) rows = put rows i r
 
-unfoldable pub removed_at : RowAt → List Row → List Row
-removed_at (Listed i) rows = without rows i
-removed_at (Unlisted i) rows = rows
+unfoldable pub removed_at : Result ℕ ℕ → List Row → List Row
+removed_at (Ok i) rows = without rows i
+removed_at (Err i) rows = rows

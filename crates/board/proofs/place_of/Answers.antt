@@ -1,16 +1,19 @@
--- `board::place_of` meets its contract. The loop's invariant: the place is not before row i. Assumes nothing.
-use Rattle.board.proofs.Place.{from_first, before_row, at_row, past_row, past_last}
+-- `board::place_of` meets its contract. Assumes nothing.
 use Rattle.std.proofs.Common.{rules}
+use Rattle.board.proofs.Place.{from_first, before_row, at_row, past_row, past_last}
 use Rattle.board.proofs.place_of.Goals as goal
 
-pub returns-then-t-q : goal.returns-then-t-q
-returns-then-t-q c = before_row _ _ _ c.loop-i.invariant.1 _ (search rules) c.row_at-q.ensures c.if-t-q.true
+pub returns-in-Less : goal.returns-in-Less
+returns-in-Less c = before_row _ _ _ c.loop-i.invariant _ (search rules) c.row_at.ensures c.in-Less.ensures
 
-pub returns-then-t-q-2 : goal.returns-then-t-q-2
-returns-then-t-q-2 c = at_row _ _ _ c.loop-i.invariant.1 _ (search rules) c.row_at-q.ensures c.if-t-q-2.true
+pub returns-in-Equal : goal.returns-in-Equal
+returns-in-Equal c = at_row _ _ _ c.loop-i.invariant _ (search rules) c.row_at.ensures c.in-Equal.ensures
+
+pub loop-i-init : goal.loop-i-init
+loop-i-init c = from_first _ _
 
 pub loop-i-preserved : goal.loop-i-preserved
-loop-i-preserved c = (search rules, past_row _ _ _ c.loop-i.invariant.1 _ (search rules) c.row_at-q.ensures c.if-t-q.false c.if-t-q-2.false)
+loop-i-preserved c = past_row _ _ _ c.loop-i.invariant _ (search rules) c.row_at.ensures c.in-Greater.ensures
 
 pub returns : goal.returns
-returns c = search (rules, from_first, past_last, before_row, at_row, past_row)
+returns c = past_last _ _ _ c.loop-i.invariant _ (search rules) (search rules) (search rules)
