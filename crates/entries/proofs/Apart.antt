@@ -81,7 +81,7 @@ module _ {keys : List ℕ} {flags : List Bool} {i : ℕ} (d : Differing keys fla
   equal_later n =
       record {
         settled = λ q. both_ways false (distinct keys) (λ e. absurd (true≢false (sym e)))
-        (λ e. sym n ∙ sym here ∙ distinct_test (distinct_dropped (i - 1) (distinct-holds keys e)));
+            (λ e. sym n ∙ sym here ∙ distinct_test (distinct_dropped (i - 1) (distinct-holds keys e)));
       }
 
   pub one_more : {at : ℕ} → new ≡ true → at ≡ flag_of (get_or keys (i - 1) 0) → at < length flags → Differing keys (set flags at true) (i - 1)

@@ -98,9 +98,9 @@ module _ {s : Store} {ks : List MarkedEntry} {noted : Noted} (G : Gathered s ks 
         keys_so_far = rw (o.keys_more, G.keys_so_far, map-append) refl;
         counts_long = ap length o.counts_set ∙ one_up-length noted.counts (counter_of s.memo k) ∙ G.counts_long;
         counts_so_far = λ i l.
-        ap (λ c. get_or c i 0) o.counts_set
-        ∙ one_up-at noted.counts (counter_of s.memo k) i _ (omega (arith, G.counts_long)) (G.counts_so_far i l)
-        ∙ sym (count_snoc (λ k. is_at (counter_of s.memo k) i) ks k);
+            ap (λ c. get_or c i 0) o.counts_set
+            ∙ one_up-at noted.counts (counter_of s.memo k) i _ (omega (arith, G.counts_long)) (G.counts_so_far i l)
+            ∙ sym (count_snoc (λ k. is_at (counter_of s.memo k) i) ks k);
       }
 
 -- ---- page by page

@@ -130,7 +130,14 @@ fn note_entry(memo: &[u32], next: Stamp, mark: Stamp, e: Entry, noted: &mut Note
 
 // The entries of page i, each noted in turn up to one that is not sound; a page that is no leaf holds none.
 #[tactic(auto, using(crate::proofs::Pages::count_fits))]
-fn note_page(store: &[u32], memo: &[u32], p: usize, i: usize, next: Stamp, noted: &mut Noted) -> bool
+fn note_page(
+    store: &[u32],
+    memo: &[u32],
+    p: usize,
+    i: usize,
+    next: Stamp,
+    noted: &mut Noted,
+) -> bool
     requires passing { state.Passing store.now memo.now p next × (i < p) }
     requires before { state.Before store.now i noted.old }
     ensures { state.Tried (store_of store.now) (marked (take (i + 1) (store_of store.now).pages)) result noted.new }
