@@ -1,24 +1,21 @@
 -- Keys tried against those behind them, by their flags and one by one, or sorted.
-use Rattle.std.proofs.Common.{◌≡◌, ℕ, zero, suc, ◌+◌, ◌-◌, ◌<◌, ◌≤◌, Bool, true, false, not, ◌||◌, ◌&&◌, List, [], ◌∷◌, eqb, ltb, length, get_or, set, take, drop, refl, sym, ◌∙◌, ap, arith, true≢false, eqb-true, ltb-true, ltb-false, ne_eqb}
+use Rattle.std.proofs.Common.{◌≡◌, ℕ, zero, suc, ◌+◌, ◌-◌, ◌<◌, ◌≤◌, Bool, true, false, not, List, [], ◌∷◌, eqb, ltb, length, get_or, set, take, drop, refl, sym, ◌∙◌, arith, true≢false, eqb-true, ltb-true, ltb-false, ne_eqb}
 use Rattle.std.specs.List.{list_any, AllByRecursion, IsDistinct, IsAllAdjacentAnswer}
 use Rattle.std.specs.List.Sorted.{IsPermutation, IsSorted, IsStrictlyIncreasing}
 use Rattle.std.specs.Ordering.{nat_cmp}
 use Rattle.std.proofs.Math.Bool.{and-true}
 use Rattle.std.proofs.Math.ListN.{drop_of_length-le, length-drop}
 use Rattle.std.proofs.Math.Seq.{take_all, get_or-set_same, get_or-set_other}
-use Rattle.std.proofs.lemmas.Bool.{eqb-false, not-true}
+use Rattle.std.proofs.lemmas.Bool.{eqb-false}
 use Rattle.std.proofs.lemmas.Bool.Decides.{nat_tests}
-use Rattle.std.proofs.lemmas.Grind.{common_steps}
 use Rattle.std.proofs.lemmas.List.{drop_more}
 use Rattle.std.proofs.lemmas.List.Sorted.{IsNonDecreasingBy-from_sort, IsPermutation-sym}
 use Rattle.std.proofs.lemmas.List.Kept.{AllPairs-from_increasing}
 use Rattle.std.proofs.lemmas.Map.Keys.{IsDistinct-IsPermutation, IsDistinct-from_apart, IsStrictlyIncreasing-from_distinct}
-use Rattle.rules.specs.Lists.{every, distinct}
-use Rattle.rules.specs.laws.Tests.{and_left, and_right}
+use Rattle.rules.specs.Lists.{distinct}
 use Rattle.rules.specs.laws.All.{All, none, more, all_map}
 use Rattle.rules.specs.laws.Lists.{Distinct, d_none, d_more, distinct-holds, distinct_test}
 use Rattle.entries.specs.Apart.{flag_of, apart, Flagged, Says}
-use Rattle.entries.specs.declared.Told.{Told}
 use Rattle.entries.specs.declared.Told.TheVariants.{Apart, Equal, Crowded}
 use Rattle.entries.specs.Decided.{both_ways}
 
@@ -39,8 +36,8 @@ flag_unset flags key (more {x = k} on f) off =
     let differs : k ≡ key → ⊥ = λ e. true≢false (sym on ∙ rw e off) in
     grind (arith, nat_tests)
 
-pub new_flag : (flags : List Bool) (ks : List ℕ) (key at : ℕ) → Flagged flags ks → at ≡ flag_of key → not (get_or flags at false) ≡ true → not (get_or flags at false) ≡ apart key ks
-new_flag flags ks key at f e n = n ∙ sym (flag_unset flags key f (rw e at (not-true _ n)))
+pub new_flag : (flags : List Bool) (ks : List ℕ) (key at : ℕ) → Flagged flags ks → at ≡ flag_of key → get_or flags at false ≡ false → not (get_or flags at false) ≡ apart key ks
+new_flag flags ks key at f e off = rw off (sym (flag_unset flags key f (rw e at off)))
 
 still_set : (flags : List Bool) (i j : ℕ) → i < length flags → get_or flags j false ≡ true → get_or (set flags i true) j false ≡ true
 still_set flags i j l h = go (eqb j i) refl

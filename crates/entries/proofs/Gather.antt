@@ -1,6 +1,5 @@
 -- The pass over the entries: one more entry, and what is gathered then.
-use Rattle.std.proofs.Common.{◌≡◌, ℕ, zero, suc, ◌+◌, ◌≤◌, ◌<◌, Bool, true, false, cond, ◌&&◌, Option, None, Some, List, [], ◌∷◌, ◌++◌, eqb, length, get_or, take, set, map, refl, sym, ◌∙◌, ap, arith, add-one, append_assoc, not-suc-le-zero, le_of_suc-le-suc, inl, inr, true≢false, eqb-true, eq-eqb, ne_eqb}
-use Rattle.std.proofs.Math.Bool.{and-true}
+use Rattle.std.proofs.Common.{◌≡◌, ℕ, zero, suc, ◌+◌, ◌≤◌, ◌<◌, Bool, true, false, cond, Option, None, Some, List, [], ◌∷◌, ◌++◌, eqb, length, get_or, take, set, map, refl, sym, ◌∙◌, ap, arith, add-one, append_assoc, not-suc-le-zero, le_of_suc-le-suc, inl, inr, true≢false, eqb-true, eq-eqb, ne_eqb}
 use Rattle.std.proofs.Math.ListN.{length-append, length-set, length-map, get_or-eq_default}
 use Rattle.std.proofs.Math.Seq.{take-suc, take_all, length-take-le, get_or-set_same, get_or-set_other}
 use Rattle.std.proofs.lemmas.Bool.{eqb-false, cases_lt}
@@ -8,7 +7,6 @@ use Rattle.std.proofs.lemmas.List.Folds.{list_all-append}
 use mathlib.Core.List.{flat_map, map-append, append-nil}
 use Rattle.rules.specs.declared.Train.{Train}
 use Rattle.rules.specs.declared.Stamp.{Stamp}
-use Rattle.rules.specs.declared.Entry.{Entry}
 use Rattle.rules.specs.declared.Slot.{Slot}
 use Rattle.rules.specs.declared.LookUp.{LookUp}
 use Rattle.rules.specs.declared.LookUp.TheVariants.{Absent, Found}
@@ -22,7 +20,7 @@ use Rattle.rules.specs.laws.Memo.{Says, look_up-says}
 use Rattle.theorems.specs.Leaves.{MarkedEntry, with_mark, marked, marked-entries, leaf_entries-count, all_leaves}
 use Rattle.entries.specs.declared.Noted.{Noted}
 use Rattle.entries.specs.Decided.{both_ways}
-use Rattle.entries.specs.Passes.{most, entry_fine, old_place, counter_of, is_at, key_of, stamp_of, counters, counted}
+use Rattle.entries.specs.Passes.{most, entry_fine, old_place, counter_of, is_at, counters, counted}
 use Rattle.entries.specs.State.{Gathered, OneMore, Room, Counts, one_up}
 
 -- ---- one entry

@@ -1,11 +1,10 @@
 -- The pass over the pages of a store: their marks, and the entries in them.
-use Rattle.std.proofs.Common.{◌≡◌, ℕ, ◌+◌, ◌*◌, ◌≤◌, ◌<◌, Bool, true, false, ◌&&◌, List, [], length, get_or, take, drop, refl, sym, ◌∙◌, ap, ap₂, arith, true≢false}
+use Rattle.std.proofs.Common.{◌≡◌, ℕ, ◌+◌, ◌≤◌, ◌<◌, Bool, true, false, ◌&&◌, List, length, get_or, take, drop, refl, sym, ◌∙◌, ap, ap₂, arith, true≢false}
 use Rattle.std.proofs.Math.ListN.{drop_of_length-le, length-replicate, get_or-replicate}
-use Rattle.std.proofs.Math.Seq.{take_all, take_at}
+use Rattle.std.proofs.Math.Seq.{take_at}
 use Rattle.std.proofs.lemmas.List.{drop_more}
 use mathlib.Core.List.{flat_map}
 use Rattle.rules.specs.declared.Stamp.{Stamp}
-use Rattle.rules.specs.declared.Entry.{Entry}
 use Rattle.rules.specs.Lists.{keep, every, count}
 use Rattle.rules.specs.Store.{Page, Store, page_no, free_page, no_place, page_at, pages_of, store_of}
 use Rattle.rules.specs.laws.All.{all_at}

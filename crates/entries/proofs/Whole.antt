@@ -14,11 +14,10 @@ use Rattle.page.specs.Laws.{pages_length}
 use Rattle.theorems.specs.Leaves.{marked}
 use Rattle.entries.specs.declared.Noted.{Noted}
 use Rattle.entries.specs.Given.{Trusted, given_fits}
-use Rattle.entries.specs.Passes.{most, counters, mark_fine, entry_fine, slot_fine, slots_fine, obsolete_in, noted_test, entries_test, entries_rules}
+use Rattle.entries.specs.Passes.{counters, mark_fine, slot_fine, slots_fine, obsolete_in, noted_test, entries_test, entries_rules}
 use Rattle.entries.specs.State.{Gathered, Tried, Known, Passing}
 use Rattle.entries.specs.Counters.{counter_slot, slots_counted}
 use Rattle.entries.specs.Decided.{entries_decided}
-use Rattle.entries.proofs.Gather.{marked-length}
 use Rattle.entries.proofs.Pages.{pages_are}
 
 -- a test that is true is not false

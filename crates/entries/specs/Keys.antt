@@ -1,11 +1,9 @@
 -- Keys: where stamps are distinct, keys are distinct exactly if no two latest entries have one train.
-use Rattle.std.specs.Prelude.{ℕ, ◌+◌, ◌*◌, ◌≤◌, ◌≡◌, Bool, Option, None, Some, not, cond, eqb, ltb, length}
-use Rattle.std.proofs.Common.{arith, sym, ◌∙◌, true≢false, lt-ltb}
+use Rattle.std.specs.Prelude.{ℕ, ◌+◌, ◌*◌, ◌≡◌, Bool, None, Some, cond, eqb}
+use Rattle.std.proofs.Common.{arith, sym, ◌∙◌, true≢false}
 use Rattle.std.proofs.Math.Path.{refl}
 use Rattle.std.proofs.Math.Bool.{true, false}
 use mathlib.Core.List.{List, [], ◌∷◌, map}
-use Rattle.rules.specs.declared.Train.{Train}
-use Rattle.rules.specs.declared.Stamp.{Stamp}
 use Rattle.rules.specs.declared.Entry.{Entry}
 use Rattle.rules.specs.declared.Slot.{Slot}
 use Rattle.rules.specs.declared.LookUp.{LookUp}
@@ -17,9 +15,8 @@ use Rattle.rules.specs.laws.All.{All, all_map, all_zip, all_kept, all_mapped, al
 use Rattle.rules.specs.laws.Kept.{keeps}
 use Rattle.rules.specs.laws.Lists.{Distinct, d_none, d_more}
 use Rattle.rules.specs.laws.Rows.{first-apart, rest-apart}
-use Rattle.rules.specs.laws.Memo.{Says, look_up-says}
 use Rattle.theorems.specs.Leaves.{MarkedEntry}
-use Rattle.entries.specs.Passes.{counters, old_place, counter_of, key_by, key_of}
+use Rattle.entries.specs.Passes.{old_place, counter_of, key_by, key_of}
 
 -- an entry's key, by whether it is latest
 abbrev pub key_if : Bool → ℕ → ℕ → ℕ

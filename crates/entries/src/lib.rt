@@ -180,13 +180,13 @@ fn flag_of(key: u64) -> usize
 }
 
 // Whether the key differs from the later ones, whose flags are set: most often the key's own is not, and no key need be looked at.
-#[tactic(auto, using(crate::proofs::Apart::new_flag, crate::proofs::Apart::not_among))]
 fn is_new(flags: &[bool], later: &[u64], key: u64) -> bool
     requires flags_len { length flags.now ≡ 16384 }
     requires flagged { Flagged flags.now later.now }
     ensures { result ≡ apart key later.now }
 {
-    !flags[flag_of(key)] || !later.contains(&key)
+    let unset = !flags[flag_of(key)];
+    unset || !later.contains(&key)
 }
 
 // What flags tell of keys: that all differ, that two are equal, or nothing, where too many share a flag for the rest to pay.
@@ -247,7 +247,7 @@ fn are_distinct(keys: &mut [u64]) -> bool
 fn slot_fine(s: Slot, n: u32, next: Stamp) -> bool
     ensures { result ≡ spec.slot_fine next n s }
 {
-    1 <= s.latest.0 && s.latest < next && 1 <= s.old && n <= s.old && s.old <= s.latest.0
+    1 <= s.latest.0 && s.latest < next && 1 <= s.old && s.old <= s.latest.0 && n <= s.old
 }
 
 // Every used slot with its counter.
