@@ -8,11 +8,11 @@ use Rattle.std.proofs.Math.ListN.{drop_of_length-le, length-drop}
 use Rattle.std.proofs.Math.Seq.{take_all, get_or-set_same, get_or-set_other}
 use Rattle.std.proofs.lemmas.Bool.{eqb-false}
 use Rattle.std.proofs.lemmas.Bool.Decides.{nat_tests}
-use Rattle.std.proofs.lemmas.List.{drop_more}
 use Rattle.std.proofs.lemmas.List.Sorted.{IsNonDecreasingBy-from_sort, IsPermutation-sym}
 use Rattle.std.proofs.lemmas.List.Kept.{AllPairs-from_increasing}
 use Rattle.std.proofs.lemmas.Map.Keys.{IsDistinct-IsPermutation, IsDistinct-from_apart, IsStrictlyIncreasing-from_distinct}
 use Rattle.rules.specs.Lists.{distinct}
+use Rattle.rules.specs.laws.Places.{drop-before}
 use Rattle.rules.specs.laws.All.{All, none, more, all_map}
 use Rattle.rules.specs.laws.Lists.{Distinct, d_none, d_more, distinct-holds, distinct_test}
 use Rattle.entries.specs.Apart.{flag_of, apart, Flagged, Says}
@@ -66,7 +66,7 @@ module _ {keys : List ℕ} {flags : List Bool} {i : ℕ} (d : Differing keys fla
   next = omega arith
 
   behind : drop (i - 1) keys ≡ get_or keys (i - 1) 0 ∷ drop i keys
-  behind = rw next at (drop_more keys (i - 1) 0 (omega arith))
+  behind = drop-before keys i 0 some most
 
   here : distinct (drop (i - 1) keys) ≡ new
   unfolding distinct apart

@@ -25,7 +25,7 @@ const MOST: usize = 576;
 const COUNTERS: usize = 1024;
 
 // What is noted of the entries passed so far: the stamp and the key of each, and for each slot how many obsolete ones there are.
-#[derive(Debug, Drop)]
+#[derive(Debug, Drop, PartialEq, Eq)]
 struct Noted {
     stamps: ArrayVec<u64, MOST>,
     keys: ArrayVec<u64, MOST>,
