@@ -1,71 +1,51 @@
--- The pass over the entries: one more entry, and what is gathered then. Assumes nothing.
-use Prim.Native.Nat.{ℕ, zero, suc, ◌+◌, ◌≤◌, ◌<◌}
-use native.Mathlib.Omega.{arith}
-use native.Mathlib.Nat.{add-zero, not-suc-le-zero, le_of_suc-le-suc}
-use native.Mathlib.Numerals.{add-one}
-use mathlib.Core.Path.{◌≡◌, refl, sym, ◌∙◌, ap}
-use mathlib.Core.Bool.{Bool, true, false, ◌&&◌, and-true, and_assoc}
-use mathlib.Core.List.{List, [], ◌∷◌, ◌++◌, map, flat_map, map-append, append-nil, append_assoc}
-use lib.Dec.{eqb}
-use lib.ListN.{length, get_or, take, set, length-append, length-set, length-map, get_or-eq_default}
-use lib.Seq.{take-suc, take-suc-set, take_all, length-take-le, get_or-set_same, get_or-set_other}
-use borrow.Author.Tests.{eqb-true, eqb-false, eq-eqb, ne_eqb}
+-- The pass over the entries: one more entry, and what is gathered then.
+use Rattle.std.proofs.Common.{◌≡◌, ℕ, zero, suc, ◌+◌, ◌≤◌, ◌<◌, Bool, true, false, cond, Option, None, Some, List, [], ◌∷◌, ◌++◌, eqb, length, get_or, take, set, map, refl, sym, ◌∙◌, ap, arith, add-one, append_assoc, not-suc-le-zero, le_of_suc-le-suc, inl, inr, true≢false, eqb-true, eq-eqb, ne_eqb}
+use Rattle.std.proofs.Math.ListN.{length-append, length-set, length-map, get_or-eq_default}
+use Rattle.std.proofs.Math.Seq.{take-suc, take_all, length-take-le, get_or-set_same, get_or-set_other}
+use Rattle.std.proofs.lemmas.Bool.{eqb-false, cases_lt}
+use Rattle.std.proofs.lemmas.List.Folds.{list_all-append}
+use mathlib.Core.List.{flat_map, map-append, append-nil}
+use Rattle.rules.specs.declared.Train.{Train}
 use Rattle.rules.specs.declared.Stamp.{Stamp}
-use Rattle.rules.specs.declared.Entry.{Entry}
 use Rattle.rules.specs.declared.Slot.{Slot}
 use Rattle.rules.specs.declared.LookUp.{LookUp}
+use Rattle.rules.specs.declared.LookUp.TheVariants.{Absent, Found}
 use Rattle.rules.specs.Lists.{every, count, one_if, keep}
-use Rattle.rules.specs.Store.{Page, Store, train_of, free_page, no_place}
+use Rattle.rules.specs.Store.{Page, Store, free_page, no_place}
 use Rattle.rules.specs.Live.{held_in, held_count}
-use Rattle.rules.specs.laws.All.{flat_append}
-use Rattle.rules.specs.laws.Kept.{keep_append}
-use Rattle.sort.specs.Laws.{order}
 use Rattle.rules.specs.Memo.{look_up}
-use Rattle.theorems.specs.Leaves.{MarkedEntry, with_mark, marked, marked-entries, leaf_entries-count}
-use Rattle.entries.specs.declared.Tally.{Tally}
-use Rattle.entries.specs.Passes.{most, held_fine, noted_fine, entry_fine, old_place, counter_of, key_by, key_of, stamp_of, counters, counted}
-use Rattle.entries.specs.State.{Gathered, OneMore, Room}
+use Rattle.rules.specs.laws.All.{flat_append, all_at, all_unmapped, every_all}
+use Rattle.rules.specs.laws.Kept.{keep_append}
+use Rattle.rules.specs.laws.Memo.{Says, look_up-says}
+use Rattle.theorems.specs.Leaves.{MarkedEntry, with_mark, marked, marked-entries, leaf_entries-count, all_leaves}
+use Rattle.entries.specs.declared.Noted.{Noted}
+use Rattle.entries.specs.Decided.{both_ways}
+use Rattle.entries.specs.Passes.{most, entry_fine, old_place, counter_of, is_at, counters, counted}
+use Rattle.entries.specs.State.{Gathered, OneMore, Room, Counts, one_up}
 
-pub small : {t : Tally} {stamps keys counts : List ℕ} → Room t stamps keys counts → (i : ℕ) → get_or counts i 0 ≤ most
-small r i = r.counts_small i
+-- ---- one entry
+-- its counter is at the place of a slot
+place_inside : (t : Train) (ms : List Slot) (l : LookUp) (st : Stamp) (i : ℕ) → Says t ms l → old_place l st ≡ Some i → i < length ms
+unfolding old_place
+place_inside t ms Absent st i a e = absurd (cc)
+place_inside t ms (Found place latest old) st i a e = go (eqb st.0 latest.0) e
+  where
+    go : (b : Bool) → cond b None (Some place) ≡ Some i → i < length ms
+    go true q = absurd (cc)
+    go false q = let same : place ≡ i = cc in omega (arith, a.0)
 
--- ---- one entry more, from what the calls came to
-module _ (next mark : Stamp) (ms : List Slot) (e : Entry) (t : Tally) (l : LookUp) (at : ℕ) (found : l ≡ look_up (train_of e) ms) (place : at ≡ old_place l e.stamp) where
-  counter_here : at ≡ counter_of ms (with_mark mark e)
-  unfolding counter_of
-  counter_here = place ∙ ap (λ l. old_place l e.stamp) found
-
-  pub entry_noted : (stamps keys counts counts' : List ℕ) (x key : ℕ) (a b ab tab : Bool) → x ≡ e.stamp.0 → key ≡ key_by at e
-      → a ≡ held_fine next e → b ≡ noted_fine l e.stamp mark → ab ≡ (a && b) → tab ≡ (t.sound && ab)
-      → counts' ≡ set counts at (get_or counts at 0 + 1)
-      → OneMore next ms (with_mark mark e) t (record { sound = tab; count = t.count + 1 })
-      stamps (set stamps t.count x) keys (set keys t.count key) counts counts'
-  unfolding entry_fine key_of
-  entry_noted stamps keys counts counts' x key a b ab tab ex ek ea eb eab etab ec =
-      record {
-        many = refl;
-        fine = rw (etab, eab, ea, eb, found);
-        stamps_set = rw ex;
-        keys_set = rw (ek, counter_here);
-        counts_set = rw (← counter_here) ec;
-      }
+pub counter_there : (t : Train) (ms : List Slot) (l : LookUp) (st : Stamp) (at : Option ℕ) (noted : Noted) → Room noted → length ms ≤ counters
+    → l ≡ look_up t ms → at ≡ old_place l st → Counts noted.counts at
+counter_there t ms l st None noted r h found place = tt
+counter_there t ms l st (Some i) noted r h found place =
+    let inside = place_inside t ms l st i (rw (← found) at (look_up-says t ms)) (sym place) in
+    (omega (arith, r.counts_long), r.counts_small i)
 
 -- ---- what is gathered then
-every_snoc : {A : Type 0} (f : A → Bool) (xs : List A) (x : A) → every f (xs ++ (x ∷ [])) ≡ (every f xs && f x)
-every_snoc f [] x = and-true (f x)
-every_snoc f (y ∷ xs) x = rw (every_snoc f xs x) (sym (and_assoc (f y) (every f xs) (f x)))
-
 count_snoc : {A : Type 0} (f : A → Bool) (xs : List A) (x : A) → count f (xs ++ (x ∷ [])) ≡ count f xs + one_if (f x)
 unfolding count
 count_snoc f [] x = omega arith
 count_snoc f (y ∷ xs) x = omega (arith, count_snoc f xs x)
-
--- a list whose front is known, with one more set behind it
-front_set : {A : Type 0} (f : A → ℕ) (xs : List A) (x : A) (l : List ℕ) (n v : ℕ) → n ≡ length xs → n < length l → v ≡ f x → take (length xs) l ≡ map f xs
-    → take (length (xs ++ (x ∷ []))) (set l n v) ≡ map f (xs ++ (x ∷ []))
-front_set f xs x l n v e h q so_far =
-    let k : length (xs ++ (x ∷ [])) ≡ suc n = rw length-append (omega arith) in
-    rw (k, take-suc-set l n v h, e, so_far, map-append, q)
 
 count_most : {A : Type 0} (f : A → Bool) (xs : List A) → count f xs ≤ length xs
 unfolding count
@@ -76,48 +56,49 @@ count_most f (x ∷ xs) = go (f x) (count_most f xs)
     go true h = omega arith
     go false h = omega arith
 
--- the counter at a place is one up, and the others are as they were
-one_up : (counts : List ℕ) (at i n : ℕ) → i < length counts → get_or counts i 0 ≡ n → get_or (set counts at (get_or counts at 0 + 1)) i 0 ≡ n + one_if (eqb at i)
-one_up counts at i n h e = go (eqb at i) refl
+-- a counter one up, and the others as they were
+one_up-at : (counts : List ℕ) (at : Option ℕ) (i n : ℕ) → i < length counts → get_or counts i 0 ≡ n → get_or (one_up counts at) i 0 ≡ n + one_if (is_at at i)
+one_up-at counts None i n h e = omega arith
+one_up-at counts (Some at) i n h e = go (eqb at i) refl
   where
     go : (b : Bool) → eqb at i ≡ b → get_or (set counts at (get_or counts at 0 + 1)) i 0 ≡ n + one_if b
     go true q = rw (eqb-true at i q) (get_or-set_same counts i (get_or counts i 0 + 1) 0 h ∙ ap (λ m. m + 1) e)
-    go false q = get_or-set_other counts at i (get_or counts at 0 + 1) 0 (λ d. eqb-false at i q (sym d)) ∙ e ∙ sym (add-zero n)
+    go false q = get_or-set_other counts at i (get_or counts at 0 + 1) 0 (λ d. eqb-false at i q (sym d)) ∙ omega arith
 
-module _ (s : Store) (ks : List MarkedEntry) (t : Tally) (stamps keys counts : List ℕ) (G : Gathered s ks t stamps keys counts) where
-  counts_most : (i : ℕ) → get_or counts i 0 ≤ length ks
+one_up-length : (counts : List ℕ) (at : Option ℕ) → length (one_up counts at) ≡ length counts
+one_up-length counts None = refl
+one_up-length counts (Some at) = length-set counts at _
+
+module _ {s : Store} {ks : List MarkedEntry} {noted : Noted} (G : Gathered s ks noted) where
+  counts_most : (i : ℕ) → get_or noted.counts i 0 ≤ length ks
   unfolding counted
   counts_most i =
-      order counters i
-      (λ h. rw (get_or-eq_default counts 0 {n = i} (omega (arith, G.counts_long))) (omega arith))
-      (λ h. rw (G.counts_so_far i h) (count_most _ ks))
+      elim (cases_lt i counters) [
+        | inl h ↦ rw (G.counts_so_far i h) (count_most _ ks)
+        | inr h ↦ rw (get_or-eq_default noted.counts 0 {n = i} (omega (arith, G.counts_long))) (omega arith)
+      ]
 
-  pub room_here : length ks < most → Room t stamps keys counts
+  pub room_here : length ks < most → Room noted
   room_here h =
       record {
-        stamps_room = omega (arith, G.many, G.stamps_long);
-        keys_room = omega (arith, G.many, G.keys_long);
+        stamps_room = rw (G.stamps_so_far, length-map) h;
+        keys_room = rw (G.keys_so_far, length-map) h;
+        counts_long = G.counts_long;
         counts_small = λ i. omega (arith, counts_most i);
       }
 
-  counts_then : (k : MarkedEntry) (i : ℕ) → i < counters
-      → get_or (set counts (counter_of s.memo k) (get_or counts (counter_of s.memo k) 0 + 1)) i 0 ≡ counted s.memo (ks ++ (k ∷ [])) i
+  pub gathered_more : {k : MarkedEntry} {new : Noted} → OneMore s.next s.memo k noted true new → Gathered s (ks ++ (k ∷ [])) new
   unfolding counted
-  counts_then k i h =
-      one_up counts (counter_of s.memo k) i _ (omega (arith, G.counts_long)) (G.counts_so_far i h) ∙ sym (count_snoc (λ k. eqb (counter_of s.memo k) i) ks k)
-
-  pub gathered_more : (k : MarkedEntry) (t' : Tally) (stamps' keys' counts' : List ℕ) → length ks < most
-      → OneMore s.next s.memo k t t' stamps stamps' keys keys' counts counts' → Gathered s (ks ++ (k ∷ [])) t' stamps' keys' counts'
-  gathered_more k t' stamps' keys' counts' h o =
+  gathered_more {k} o =
       record {
-        many = rw length-append (omega (arith, o.many, G.many));
-        fine = o.fine ∙ ap (λ b. b && entry_fine s.next s.memo k) G.fine ∙ sym (every_snoc _ ks k);
-        stamps_long = ap length o.stamps_set ∙ length-set stamps t.count (stamp_of k) ∙ G.stamps_long;
-        stamps_so_far = rw o.stamps_set (front_set stamp_of ks k stamps t.count _ G.many (omega (arith, G.many, G.stamps_long)) refl G.stamps_so_far);
-        keys_long = ap length o.keys_set ∙ length-set keys t.count (key_of s.memo k) ∙ G.keys_long;
-        keys_so_far = rw o.keys_set (front_set (key_of s.memo) ks k keys t.count _ G.many (omega (arith, G.many, G.keys_long)) refl G.keys_so_far);
-        counts_long = ap length o.counts_set ∙ length-set counts (counter_of s.memo k) _ ∙ G.counts_long;
-        counts_so_far = λ i l. ap (λ c. get_or c i 0) o.counts_set ∙ counts_then k i l;
+        fine = list_all-append (entry_fine s.next s.memo) ks (k ∷ []) ∙ rw (G.fine, ← o.sound) refl;
+        stamps_so_far = rw (o.stamps_more, G.stamps_so_far, map-append) refl;
+        keys_so_far = rw (o.keys_more, G.keys_so_far, map-append) refl;
+        counts_long = ap length o.counts_set ∙ one_up-length noted.counts (counter_of s.memo k) ∙ G.counts_long;
+        counts_so_far = λ i l.
+            ap (λ c. get_or c i 0) o.counts_set
+            ∙ one_up-at noted.counts (counter_of s.memo k) i _ (omega (arith, G.counts_long)) (G.counts_so_far i l)
+            ∙ sym (count_snoc (λ k. is_at (counter_of s.memo k) i) ks k);
       }
 
 -- ---- page by page
@@ -156,9 +137,17 @@ module _ (ps : List Page) (i : ℕ) (inside : i < length ps) where
         let b = rw (eq-eqb (get_or ps i free_page).kind 1 leaf) at (held-before ps i inside) in
         rw (length-append, length-map, length-take-le j (get_or ps i free_page).places (omega arith)) (omega arith)
 
-  pub passed_more : (j : ℕ) (e : Entry) → j < length (get_or ps i free_page).places → e ≡ get_or (get_or ps i free_page).places j no_place
-      → passed ps i (j + 1) ≡ passed ps i j ++ (with_mark (get_or ps i free_page).mark e ∷ [])
-  passed_more j e h q = rw (add-one j, take-suc (get_or ps i free_page).places j no_place h, map-append, append_assoc, q)
+    -- an entry that fails there fails among all
+    pub one_fails : (f : MarkedEntry → Bool) (j : ℕ) → j < length (get_or ps i free_page).places
+        → f (with_mark (get_or ps i free_page).mark (get_or (get_or ps i free_page).places j no_place)) ≡ false → every f (marked ps) ≡ false
+    unfolding marked
+    one_fails f j h e =
+        sym (both_ways false (every f (marked ps)) (λ q. absurd (true≢false (sym q)))
+        (λ q. sym e ∙ all_at (all_unmapped _ (get_or ps i free_page).places (all_at (all_leaves _ ps (every_all f (marked ps) q)) i free_page inside leaf)) j no_place h))
+
+  pub passed_more : (j : ℕ) → j < length (get_or ps i free_page).places
+      → passed ps i (j + 1) ≡ passed ps i j ++ (with_mark (get_or ps i free_page).mark (get_or (get_or ps i free_page).places j no_place) ∷ [])
+  passed_more j h = rw (add-one j, take-suc (get_or ps i free_page).places j no_place h, map-append, append_assoc)
 
 pub passed_none : (ps : List Page) (i : ℕ) → passed ps i 0 ≡ marked (take i ps)
 passed_none ps i = append-nil (marked (take i ps))

@@ -1,111 +1,121 @@
--- The pass over the entries, page by page: what each step of the code shows. Assumes nothing.
-use Prim.Native.Nat.{ℕ, ◌+◌, ◌≤◌, ◌<◌}
-use native.Mathlib.Omega.{arith}
-use mathlib.Core.Path.{◌≡◌, refl, sym, ◌∙◌, ap, ap₂}
-use mathlib.Core.Bool.{true}
-use mathlib.Core.List.{List, flat_map}
-use lib.ListN.{length, get_or, length-replicate, get_or-replicate}
-use lib.Seq.{take_all}
+-- The pass over the pages of a store: their marks, and the entries in them.
+use Rattle.std.proofs.Common.{◌≡◌, ℕ, ◌+◌, ◌≤◌, ◌<◌, Bool, true, false, ◌&&◌, List, length, get_or, take, drop, refl, sym, ◌∙◌, ap, ap₂, arith, true≢false}
+use Rattle.std.proofs.Math.ListN.{drop_of_length-le, length-replicate, get_or-replicate}
+use Rattle.std.proofs.Math.Seq.{take_at}
+use Rattle.std.proofs.lemmas.List.{drop_more}
+use mathlib.Core.List.{flat_map}
 use Rattle.rules.specs.declared.Stamp.{Stamp}
-use Rattle.rules.specs.declared.Entry.{Entry}
 use Rattle.rules.specs.Lists.{keep, every, count}
-use Rattle.rules.specs.Store.{Page, page_no, free_page, no_place, page_at, store_of}
+use Rattle.rules.specs.Store.{Page, Store, page_no, free_page, no_place, page_at, pages_of, store_of}
 use Rattle.rules.specs.laws.All.{all_at}
 use Rattle.memo.specs.Slots.{slots_in}
 use Rattle.page.specs.declared.Page.{Page as Struct}
-use Rattle.page.specs.Struct.{struct_at, laid_page}
-use Rattle.page.specs.Laws.{struct_there, laid_place}
-use Rattle.theorems.specs.Leaves.{with_mark, marked}
-use Rattle.entries.specs.declared.Tally.{Tally}
+use Rattle.page.specs.Struct.{struct_at, eight, laid_page, contents}
+use Rattle.page.specs.Laws.{struct_there, contents_at, pages_length}
+use Rattle.theorems.specs.Leaves.{MarkedEntry, with_mark, marked}
+use Rattle.entries.specs.declared.Noted.{Noted}
 use Rattle.entries.specs.Given.{given_fits}
-use Rattle.entries.specs.Passes.{counters, counted}
-use Rattle.entries.specs.State.{Passing, Before, Fresh, Gathered, OneMore, Room}
-use Rattle.entries.proofs.Gather.{room_here, gathered_more, passed, passed_other, passed_all, passed_few, passed_more, passed_none}
+use Rattle.entries.specs.Passes.{counters, counted, mark_fine}
+use Rattle.entries.specs.State.{Known, Passing, Before, Fresh, Gathered, Tried, OneMore, Room}
+use Rattle.entries.proofs.Gather.{room_here, gathered_more, passed, passed_other, passed_all, passed_few, passed_more, passed_none, one_fails}
 
 -- page i of the store
 abbrev page : List ℕ → ℕ → Page
 page w i = get_or (store_of w).pages i free_page
 
--- in the leaf i, whose struct is g, before its place j
-pub record InPage (w : List ℕ) (i n j : ℕ) (mark : Stamp) (g : Struct) (t : Tally) (stamps keys counts : List ℕ) : Type 0 where
-  pub at_most : j ≤ n
-  pub inside : i < length (store_of w).pages
-  pub leaf : (page w i).kind ≡ 1
-  pub its_mark : mark ≡ (page w i).mark
-  pub many : n ≡ length (page w i).places
-  pub read : (j : ℕ) → get_or g.places j no_place ≡ get_or (page w i).places j no_place
-  pub so_far : Gathered (store_of w) (passed (store_of w).pages i j) t stamps keys counts
+all_tried : {s : Store} {ks : List MarkedEntry} {noted : Noted} → Gathered s ks noted → Tried s ks true noted
+all_tried G = record { gathered = λ q. G; broken = λ q. absurd (true≢false q) }
 
-module _ (w m : List ℕ) (p : ℕ) (next : Stamp) (P : Passing w m p next) (i : ℕ) where
-  module _ (h : i < p) (g : Struct) (e : g ≡ struct_at w p (page_no i)) where
-    its : g ≡ laid_page (page w i)
-    unfolding page_at
-    its =
-        let T = P.known.trusted in
-        e ∙ ap₂ (λ w p. struct_at w p (page_no i)) (sym T.tidy) P.known.pages_many
-        ∙ struct_there (store_of w) (given_fits _ T.given).pages_fit (page_no i)
+module _ {w m : List ℕ} {p : ℕ} {next : Stamp} (P : Passing w m p next) {i : ℕ} (h : i < p) {g : Struct} (e : g ≡ struct_at w p (page_no i)) where
+  its : g ≡ laid_page (page w i)
+  unfolding page_at
+  its =
+      let T = P.known.trusted in
+      e ∙ ap₂ (λ w p. struct_at w p (page_no i)) (sym T.tidy) P.known.pages_many
+      ∙ struct_there (store_of w) (given_fits _ T.given).pages_fit (page_no i)
 
-    there : i < length (store_of w).pages
-    there = omega (arith, P.known.pages_many)
+  there : i < length (store_of w).pages
+  there = omega (arith, P.known.pages_many)
 
-    module _ (t : Tally) (stamps keys counts : List ℕ) (B : Before w i t stamps keys counts) where
-      pub page_skipped : (g.kind ≡ 1 → ⊥) → Before w (i + 1) t stamps keys counts
-      unfolding laid_page
-      page_skipped d = rw (passed_other (store_of w).pages i there (λ k. d (ap (λ g. g.kind) its ∙ k))) at B
+  fits : length (page w i).places ≤ 8
+  fits = all_at (given_fits _ P.known.trusted.given).pages_fit i free_page there
 
-      pub page_entered : g.kind ≡ 1 → InPage w i g.count 0 g.mark g t stamps keys counts
-      unfolding laid_page
-      page_entered k =
-          record {
-            at_most = omega arith;
-            inside = there;
-            leaf = sym (ap (λ g. g.kind) its) ∙ k;
-            its_mark = ap (λ g. g.mark) its;
-            many = ap (λ g. g.count) its;
-            read = λ j. ap (λ g. get_or g.places j no_place) its ∙ laid_place (page w i) (all_at (given_fits _ P.known.trusted.given).pages_fit i free_page there) j;
-            so_far = rw (← passed_none (store_of w).pages i) at B;
-          }
+  pub count_fits : g.count ≤ 8
+  unfolding laid_page
+  count_fits = rw its fits
 
-  module _ (n j : ℕ) (mark : Stamp) (g : Struct) (t : Tally) (stamps keys counts : List ℕ) (I : InPage w i n j mark g t stamps keys counts) where
-    few : j < n → length (passed (store_of w).pages i j) < 576
-    few h = omega (arith, P.few, passed_few (store_of w).pages i I.inside I.leaf j (omega (arith, I.many)))
+  same : take g.count g.places ≡ (page w i).places
+  unfolding laid_page eight
+  same = rw its (take_at (page w i).places _ _ refl)
 
-    pub entry_room : j < n → Room t stamps keys counts
-    entry_room h = room_here _ _ t stamps keys counts I.so_far (few h)
+  pub page_skipped : {noted : Noted} → Before w i noted → (g.kind ≡ 1 → ⊥) → Tried (store_of w) (marked (take (i + 1) (store_of w).pages)) true noted
+  unfolding laid_page
+  page_skipped B d = all_tried (rw (passed_other (store_of w).pages i there (λ k. d (ap (λ g. g.kind) its ∙ k))) at B)
 
-    pub entry_passed : (e : Entry) (t' : Tally) (stamps' keys' counts' : List ℕ) → j < n → e ≡ get_or g.places j no_place
-        → OneMore next (slots_in m) (with_mark mark e) t t' stamps stamps' keys keys' counts counts' → InPage w i n (j + 1) mark g t' stamps' keys' counts'
-    entry_passed e t' stamps' keys' counts' h q o =
-        let o' = rw (P.known.next_is, P.memo_is, I.its_mark) at o in
-        let G = gathered_more _ _ t stamps keys counts I.so_far _ t' stamps' keys' counts' (few h) o' in
-        record {
-          at_most = omega arith;
-          inside = I.inside;
-          leaf = I.leaf;
-          its_mark = I.its_mark;
-          many = I.many;
-          read = I.read;
-          so_far = rw (passed_more (store_of w).pages i I.inside j e (omega (arith, I.many)) (q ∙ I.read j)) G;
-        }
+  pub page_entered : {noted : Noted} → Before w i noted → Gathered (store_of w) (passed (store_of w).pages i 0) noted
+  page_entered B = rw (← passed_none (store_of w).pages i) at B
 
-    pub page-done : n ≤ j → Before w (i + 1) t stamps keys counts
-    page-done h = rw (passed_all (store_of w).pages i I.inside I.leaf j (omega (arith, I.many))) at I.so_far
+  leaf : g.kind ≡ 1 → (page w i).kind ≡ 1
+  unfolding laid_page
+  leaf k = sym (ap (λ g. g.kind) its) ∙ k
+
+  module _ (kind : g.kind ≡ 1) {noted : Noted} {j : ℕ} (G : Gathered (store_of w) (passed (store_of w).pages i j) noted) where
+    pub page_done : length (take g.count g.places) ≤ j → Tried (store_of w) (marked (take (i + 1) (store_of w).pages)) true noted
+    page_done k = all_tried (rw (passed_all (store_of w).pages i there (leaf kind) j (rw same at k)) at G)
+
+    module _ (inside : j < length (take g.count g.places)) where
+      short : j < length (page w i).places
+      short = rw same at inside
+
+      pub entry_room : Room noted
+      entry_room = room_here G (omega (arith, P.few, passed_few (store_of w).pages i there (leaf kind) j short))
+
+      module _ {fine : Bool} {new : Noted} (o : OneMore next (slots_in m) (with_mark g.mark (get_or (take g.count g.places) j no_place)) noted fine new) where
+        one : OneMore (store_of w).next (store_of w).memo (with_mark (page w i).mark (get_or (page w i).places j no_place)) noted fine new
+        unfolding laid_page
+        one = let its_mark : g.mark ≡ (page w i).mark = ap (λ g. g.mark) its in rw (P.known.next_is, P.memo_is, its_mark, same) at o
+
+        pub entry_broken : fine ≡ false → Tried (store_of w) (marked (take (i + 1) (store_of w).pages)) false new
+        entry_broken f =
+            record {
+              gathered = λ (q : false ≡ true). absurd (true≢false (sym q));
+              broken = λ q. one_fails (store_of w).pages i there (leaf kind) _ j short (sym one.sound ∙ f);
+            }
+
+        pub entry_passed : fine ≡ true → Gathered (store_of w) (passed (store_of w).pages i (j + 1)) new
+        entry_passed f = rw (passed_more (store_of w).pages i there j short) (gathered_more G (rw f at one))
 
 -- ---- all pages
-pub none_gathered : (w stamps keys counts : List ℕ) → Fresh stamps keys counts → Before w 0 (record { sound = true; count = 0 }) stamps keys counts
+pub none_gathered : (w : List ℕ) {noted : Noted} → Fresh noted → Before w 0 noted
 unfolding marked keep flat_map counted count
-none_gathered w stamps keys counts F =
+none_gathered w F =
     record {
-      many = refl;
       fine = refl;
-      stamps_long = F.stamps_long;
-      stamps_so_far = refl;
-      keys_long = F.keys_long;
-      keys_so_far = refl;
+      stamps_so_far = F.no_stamps;
+      keys_so_far = F.no_keys;
       counts_long = ap length F.zeros ∙ length-replicate {A = ℕ} counters 0;
       counts_so_far = λ i h. ap (λ c. get_or c i 0) F.zeros ∙ get_or-replicate counters i 0 0 h;
     }
 
-pub all_gathered : (w m : List ℕ) (p : ℕ) (next : Stamp) → Passing w m p next → (i : ℕ) (t : Tally) (stamps keys counts : List ℕ) → p ≤ i
-    → Before w i t stamps keys counts → Gathered (store_of w) (marked (store_of w).pages) t stamps keys counts
-all_gathered w m p next P i t stamps keys counts h B = rw (take_all i (store_of w).pages (omega (arith, P.known.pages_many))) at B
+-- ---- the marks
+module _ (w : List ℕ) (p : ℕ) (next : Stamp) (K : Known w p next) where
+  pub pages_are : pages_of p (drop 16 w) ≡ (store_of w).pages
+  unfolding store_of
+  pages_are = ap (λ n. pages_of n (drop 16 w)) (K.pages_many ∙ pages_length w (get_or w 5 0))
+
+  module _ (i : ℕ) (so_far : every (mark_fine next) (store_of w).pages ≡ every (mark_fine next) (drop i (store_of w).pages)) where
+    module _ (h : i < p) (g : Struct) (e : g ≡ struct_at w p (page_no i)) (r : Bool) (tested : r ≡ mark_fine next (contents g)) where
+      tested_one : every (mark_fine next) (store_of w).pages ≡ (r && every (mark_fine next) (drop (i + 1) (store_of w).pages))
+      unfolding page_at
+      tested_one =
+          let here : contents g ≡ page w i = ap contents e ∙ contents_at w p (page_no i) ∙ ap (λ ps. get_or ps i free_page) pages_are in
+          so_far ∙ rw (drop_more (store_of w).pages i free_page (omega (arith, K.pages_many)), tested, here) refl
+
+      pub mark_broken : r ≡ false → false ≡ every (mark_fine next) (store_of w).pages
+      mark_broken f = sym (rw f at tested_one)
+
+      pub mark_passed : r ≡ true → every (mark_fine next) (store_of w).pages ≡ every (mark_fine next) (drop (i + 1) (store_of w).pages)
+      mark_passed t = rw t at tested_one
+
+    pub marks_passed : p ≤ i → true ≡ every (mark_fine next) (store_of w).pages
+    marks_passed h = sym (so_far ∙ rw (drop_of_length-le (store_of w).pages {i = i} (omega (arith, K.pages_many))) refl)

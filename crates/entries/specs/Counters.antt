@@ -1,5 +1,5 @@
 -- Counters: the one at a slot's place counts the obsolete entries of its train.
-use Rattle.std.specs.Prelude.{ℕ, zero, suc, ◌≤◌, ◌<◌, ◌≡◌, Bool, cond, ◌&&◌, List, [], ◌∷◌, length, get_or}
+use Rattle.std.specs.Prelude.{ℕ, zero, suc, ◌≤◌, ◌<◌, ◌≡◌, Bool, None, Some, cond, ◌&&◌, List, [], ◌∷◌, length, get_or}
 use Rattle.std.proofs.Common.{arith, not-suc-le-zero, le_of_suc-le-suc, sym, ◌∙◌}
 use Rattle.std.proofs.Math.Path.{refl, ap}
 use Rattle.std.proofs.Math.Bool.{true, false, not}
@@ -18,7 +18,7 @@ use Rattle.rules.specs.laws.Counts.{count_same}
 use Rattle.rules.specs.laws.Words.{no_slot}
 use Rattle.rules.specs.laws.Memo.{InOrder, o_more, o_none, Says, look_up-says}
 use Rattle.theorems.specs.Leaves.{MarkedEntry}
-use Rattle.entries.specs.Passes.{counters, old_place, counter_of, counted, obsolete_in, slot_fine, slots_fine}
+use Rattle.entries.specs.Passes.{old_place, is_at, counter_of, counted, obsolete_in, slot_fine, slots_fine}
 
 -- a slot's train is found at the slot's place
 found_at : {ms : List Slot} → InOrder ms → (i : ℕ) → i < length ms → look_up (get_or ms i no_slot).train ms ≡ Found i (get_or ms i no_slot).latest (get_or ms i no_slot).old
@@ -29,33 +29,32 @@ found_at (o_more {m = m} {ms = ms} a o) (suc i) h =
     rw (ne_eqb m.train.0 (get_or ms i no_slot).train.0 (omega (arith, all_at a i no_slot (le_of_suc-le-suc h))), found_at o i (le_of_suc-le-suc h))
 
 -- at no other place
-not_there : (t : Train) (ms : List Slot) (st : Stamp) (i : ℕ) → i < counters → (t.0 ≡ (get_or ms i no_slot).train.0 → ⊥) → (l : LookUp) → Says t ms l → old_place l st ≡ i → ⊥
+not_there : (t : Train) (ms : List Slot) (st : Stamp) (i : ℕ) → (t.0 ≡ (get_or ms i no_slot).train.0 → ⊥) → (l : LookUp) → Says t ms l → is_at (old_place l st) i ≡ false
 unfolding old_place
-not_there t ms st i h d Absent a e = omega arith
-not_there t ms st i h d (Found place latest old) a e = go (eqb st.0 latest.0) e
+not_there t ms st i d Absent a = refl
+not_there t ms st i d (Found place latest old) a = go (eqb st.0 latest.0)
   where
-    go : (b : Bool) → cond b counters place ≡ i → ⊥
-    go true q = omega arith
-    go false q = d (sym (ap (λ j. (get_or ms j no_slot).train.0) (sym q) ∙ ap (λ m. m.train.0) a.1))
+    go : (b : Bool) → is_at (cond b None (Some place)) i ≡ false
+    go true = refl
+    go false = ne_eqb place i (λ q. d (sym (ap (λ j. (get_or ms j no_slot).train.0) (sym q) ∙ ap (λ m. m.train.0) a.1)))
 
-module _ {memo : List Slot} (o : InOrder memo) (fits : length memo ≤ counters) (i : ℕ) (inside : i < length memo) where
-  the_place : (b : Bool) → eqb (cond b counters i) i ≡ not b
-  the_place true = ne_eqb counters i (omega arith)
+module _ {memo : List Slot} (o : InOrder memo) (i : ℕ) (inside : i < length memo) where
+  the_place : (b : Bool) → is_at (cond b None (Some i)) i ≡ not b
+  the_place true = refl
   the_place false = eq-eqb i i refl
 
-  counter_is : (k : MarkedEntry) → eqb (counter_of memo k) i ≡ (eqb (train_of k.entry).0 (get_or memo i no_slot).train.0 && is_obsolete memo k.entry)
+  counter_is : (k : MarkedEntry) → is_at (counter_of memo k) i ≡ (eqb (train_of k.entry).0 (get_or memo i no_slot).train.0 && is_obsolete memo k.entry)
   unfolding counter_of is_obsolete is_latest old_place latest_by
   counter_is k = go (eqb k.entry.key (get_or memo i no_slot).train.0) refl
     where
       go : (b : Bool) → eqb k.entry.key (get_or memo i no_slot).train.0 ≡ b
-          → eqb (old_place (look_up (train_of k.entry) memo) k.entry.stamp) i ≡ (b && not (latest_by (look_up (train_of k.entry) memo) k.entry.stamp))
+          → is_at (old_place (look_up (train_of k.entry) memo) k.entry.stamp) i ≡ (b && not (latest_by (look_up (train_of k.entry) memo) k.entry.stamp))
       go true e =
           let q : look_up (train_of k.entry) memo ≡ Found i (get_or memo i no_slot).latest (get_or memo i no_slot).old =
           ap (λ n. look_up (train n) memo) (eqb-true _ _ e) ∙ found_at o i inside in
           rw q (the_place (eqb k.entry.stamp.0 (get_or memo i no_slot).latest.0))
       go false e =
-          ne_eqb _ _
-          (not_there (train_of k.entry) memo k.entry.stamp i (omega arith) (eqb-false _ _ e) (look_up (train_of k.entry) memo) (look_up-says (train_of k.entry) memo))
+          not_there (train_of k.entry) memo k.entry.stamp i (eqb-false _ _ e) (look_up (train_of k.entry) memo) (look_up-says (train_of k.entry) memo)
 
   pub counter_slot : (ks : List MarkedEntry) → counted memo ks i ≡ obsolete_in memo ks (get_or memo i no_slot)
   unfolding counted obsolete_in

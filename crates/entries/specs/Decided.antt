@@ -107,7 +107,7 @@ module _ (s : Store) (T : TreeGiven s) where
 
   keys_are : map (key_of s.memo) (marked s.pages) ≡ map (λ e. key_if (is_latest s.memo e) (train_of e).0 e.stamp.0) es
   unfolding es
-  keys_are = maps_once _ _ _ (key_is s.memo (omega (arith, T.sizes.slots_most, T.memo.used_most))) (marked s.pages)
+  keys_are = maps_once _ _ _ (key_is s.memo) (marked s.pages)
 
   -- given a sound tree, the entries are those held
   module _ (R : TreeSound s) where

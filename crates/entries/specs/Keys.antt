@@ -1,11 +1,10 @@
 -- Keys: where stamps are distinct, keys are distinct exactly if no two latest entries have one train.
-use Rattle.std.specs.Prelude.{ℕ, ◌+◌, ◌*◌, ◌≤◌, ◌≡◌, Bool, not, cond, eqb, ltb, length}
-use Rattle.std.proofs.Common.{arith, sym, ◌∙◌, true≢false, lt-ltb}
+use Rattle.std.specs.Prelude.{ℕ, ◌+◌, ◌*◌, ◌≡◌, Bool, None, Some, cond, eqb}
+use Rattle.std.proofs.Common.{arith, sym, ◌∙◌, true≢false}
 use Rattle.std.proofs.Math.Path.{refl}
 use Rattle.std.proofs.Math.Bool.{true, false}
 use mathlib.Core.List.{List, [], ◌∷◌, map}
-use Rattle.rules.specs.declared.Train.{Train}
-use Rattle.rules.specs.declared.Stamp.{Stamp}
+use Rattle.rules.specs.declared.Entry.{Entry}
 use Rattle.rules.specs.declared.Slot.{Slot}
 use Rattle.rules.specs.declared.LookUp.{LookUp}
 use Rattle.rules.specs.declared.LookUp.TheVariants.{Absent, Found}
@@ -16,9 +15,8 @@ use Rattle.rules.specs.laws.All.{All, all_map, all_zip, all_kept, all_mapped, al
 use Rattle.rules.specs.laws.Kept.{keeps}
 use Rattle.rules.specs.laws.Lists.{Distinct, d_none, d_more}
 use Rattle.rules.specs.laws.Rows.{first-apart, rest-apart}
-use Rattle.rules.specs.laws.Memo.{Says, look_up-says}
 use Rattle.theorems.specs.Leaves.{MarkedEntry}
-use Rattle.entries.specs.Passes.{counters, old_place, counter_of, key_by, key_of}
+use Rattle.entries.specs.Passes.{old_place, counter_of, key_by, key_of}
 
 -- an entry's key, by whether it is latest
 abbrev pub key_if : Bool → ℕ → ℕ → ℕ
@@ -58,21 +56,15 @@ module _ {A : Type 0} (lat : A → Bool) (tr st : A → ℕ) where
       go false e u ih = d_more (all_mapped _ (differs (all_members xs λ y m f. absurd (true≢false (sym f ∙ e))))) (ih u)
 
 -- a latest entry has no counter, an obsolete one has
-has_counter : (t : Train) (ms : List Slot) (st : Stamp) (l : LookUp) → length ms ≤ counters → Says t ms l → ltb (old_place l st) counters ≡ not (latest_by l st)
-unfolding old_place latest_by
-has_counter t ms st Absent h a = refl
-has_counter t ms st (Found place latest old) h a = go (eqb st.0 latest.0)
+key_by_look_up : (l : LookUp) (e : Entry) → key_by (old_place l e.stamp) e ≡ key_if (latest_by l e.stamp) e.key e.stamp.0
+unfolding key_by old_place latest_by
+key_by_look_up Absent e = refl
+key_by_look_up (Found place latest old) e = go (eqb e.stamp.0 latest.0)
   where
-    go : (b : Bool) → ltb (cond b counters place) counters ≡ not b
+    go : (b : Bool) → key_by (cond b None (Some place)) e ≡ key_if b e.key e.stamp.0
     go true = refl
-    go false = lt-ltb place counters (omega (arith, a.0))
+    go false = refl
 
-chosen : (b : Bool) (t x : ℕ) → cond (not b) (2 * x + 1) (2 * t) ≡ key_if b t x
-chosen true t x = refl
-chosen false t x = refl
-
-pub key_is : (memo : List Slot) → length memo ≤ counters → (k : MarkedEntry) → key_of memo k ≡ key_if (is_latest memo k.entry) k.entry.key k.entry.stamp.0
-unfolding key_of key_by counter_of is_latest
-key_is memo h k =
-    let e = k.entry in
-    rw (has_counter (train_of e) memo e.stamp (look_up (train_of e) memo) h (look_up-says (train_of e) memo)) (chosen (latest_by (look_up (train_of e) memo) e.stamp) e.key e.stamp.0)
+pub key_is : (memo : List Slot) (k : MarkedEntry) → key_of memo k ≡ key_if (is_latest memo k.entry) k.entry.key k.entry.stamp.0
+unfolding key_of counter_of is_latest
+key_is memo k = key_by_look_up (look_up (train_of k.entry) memo) k.entry

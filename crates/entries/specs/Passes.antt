@@ -1,5 +1,5 @@
 -- What each pass computes: the tests of an entry, of a page's mark and of a slot, and what is gathered from the entries.
-use Rattle.std.specs.Prelude.{ℕ, ◌+◌, ◌*◌, Bool, true, not, cond, ◌&&◌, ◌||◌, List, [], ◌∷◌, map, eqb, leb, ltb, length}
+use Rattle.std.specs.Prelude.{ℕ, ◌+◌, ◌*◌, Bool, true, false, not, cond, ◌&&◌, ◌||◌, List, [], ◌∷◌, Option, None, Some, map, eqb, leb, ltb, length}
 use Rattle.rules.specs.declared.Stamp.{Stamp}
 use Rattle.rules.specs.declared.Entry.{Entry}
 use Rattle.rules.specs.declared.Slot.{Slot}
@@ -51,15 +51,16 @@ slots_fine next [] (m ∷ ms) = true
 slots_fine next (n ∷ cs) (m ∷ ms) = slot_fine next n m && slots_fine next cs ms
 
 -- ---- what is gathered from an entry
--- how many counters there are; an entry that is latest has none
+-- how many counters there are
 abbrev pub counters : ℕ
 counters = 1_024
 
-unfoldable pub old_place : LookUp → Stamp → ℕ
-old_place Absent st = counters
-old_place (Found place latest old) st = cond (eqb st.0 latest.0) counters place
+-- an obsolete entry's is the one at its slot's place; an entry that is latest has none
+unfoldable pub old_place : LookUp → Stamp → Option ℕ
+old_place Absent st = None
+old_place (Found place latest old) st = cond (eqb st.0 latest.0) None (Some place)
 
-unfoldable pub counter_of : List Slot → MarkedEntry → ℕ
+unfoldable pub counter_of : List Slot → MarkedEntry → Option ℕ
 counter_of memo k = old_place (look_up (train_of k.entry) memo) k.entry.stamp
 
 abbrev pub stamp_of : MarkedEntry → ℕ
@@ -67,15 +68,20 @@ stamp_of k = k.entry.stamp.0
 
 -- even by the train of a latest entry, odd by the stamp of an obsolete one: where stamps are distinct, two keys are equal
 -- only if two latest entries have one train
-unfoldable pub key_by : ℕ → Entry → ℕ
-key_by at e = cond (ltb at counters) (2 * e.stamp.0 + 1) (2 * e.key)
+unfoldable pub key_by : Option ℕ → Entry → ℕ
+key_by None e = 2 * e.key
+key_by (Some at) e = 2 * e.stamp.0 + 1
 
 unfoldable pub key_of : List Slot → MarkedEntry → ℕ
 key_of memo k = key_by (counter_of memo k) k.entry
 
+abbrev pub is_at : Option ℕ → ℕ → Bool
+is_at None i = false
+is_at (Some at) i = eqb at i
+
 -- how many of the entries have this counter
 unfoldable pub counted : List Slot → List MarkedEntry → ℕ → ℕ
-counted memo ks i = count (λ k. eqb (counter_of memo k) i) ks
+counted memo ks i = count (λ k. is_at (counter_of memo k) i) ks
 
 -- how many of them are obsolete ones of the slot's train
 unfoldable pub obsolete_in : List Slot → List MarkedEntry → Slot → ℕ

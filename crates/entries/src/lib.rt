@@ -7,14 +7,15 @@ ghost use Rattle.rules.specs.Store.{store_of};
 ghost use Rattle.theorems.specs.Leaves.{marked, with_mark};
 ghost use Rattle.memo.specs.Slots.{MemoWords, slots_in};
 ghost use Rattle.page.specs.Struct.{contents};
-ghost use Rattle.sort.specs.Laws.{InOrder};
 ghost use Rattle.entries.specs.Given.{Trusted};
 ghost use Rattle.entries.specs.Apart.{apart, Flagged, Says};
 ghost use Rattle.entries.specs.Passes as spec;
 ghost use Rattle.entries.specs.State as state;
 ghost use Rattle.entries.specs.Apart as spec_apart;
 
+use arrayvec::ArrayVec;
 use page::Page;
+use rules::kind::Kind;
 use rules::{Entry, LookUp, PageNo, Slot, Stamp, Train};
 
 // How many entries the largest store may hold.
@@ -23,299 +24,194 @@ const MOST: usize = 576;
 // How many counters there are, one for each slot that a memo can have.
 const COUNTERS: usize = 1024;
 
-// What the entries passed so far come to: whether each is sound, and how many they are.
-#[derive(Clone, Copy)]
-struct Tally {
-    sound: bool,
-    count: usize,
-}
-
-// A word as a key: the cast of a field would ask anew that it fits.
-fn wide(x: u32) -> u64
-    ensures { result ≡ x }
-{
-    x as u64
-}
-
-// Both of two answers, as a call: where the branches of `&&` meet, the tests would not be known any more.
-fn both(a: bool, b: bool) -> bool
-    ensures { result ≡ (a && b) }
-{
-    if a {
-        return b;
-    }
-    false
+// What is noted of the entries passed so far: the stamp and the key of each, and for each slot how many obsolete ones there are.
+#[derive(Debug, Drop, PartialEq, Eq)]
+struct Noted {
+    stamps: ArrayVec<u64, MOST>,
+    keys: ArrayVec<u64, MOST>,
+    counts: [u32; COUNTERS],
 }
 
 // ---- marks
 
 // A leaf's mark is 1 to the next stamp, an inner page's is 0.
+#[tactic(auto, using(std::proofs::lemmas::Bool::Decides::nat_tests), unfolding(crate::specs::Passes::mark_fine, page::specs::Struct::contents, rules::specs::Lists::all_of))]
 fn mark_fine(g: Page, next: Stamp) -> bool
     ensures { result ≡ spec.mark_fine next (contents g) }
 {
-    if g.kind == 1 {
-        if g.mark.0 < 1 {
-            return false;
-        }
-        return g.mark.0 <= next.0;
+    match Kind::try_from(g.kind) {
+        Ok(Kind::Leaf) => 1 <= g.mark.0 && g.mark <= next,
+        Ok(Kind::Inner) => g.mark.0 == 0,
+        _ => true,
     }
-    if g.kind == 2 {
-        return g.mark.0 == 0;
-    }
-    true
 }
 
-// Every page's mark is as rule 7 says, looked at from the last page to the first.
+// Every page's mark is as rule 7 says.
+#[tactic(auto, using(crate::proofs::Pages::mark_broken, crate::proofs::Pages::mark_passed, crate::proofs::Pages::marks_passed))]
 fn marks_fine(store: &[u32], p: usize, next: Stamp) -> bool
     requires { state.Known store.now p next }
     ensures { result ≡ every (spec.mark_fine next) (store_of store.now).pages }
 {
-    let mut fine = true;
-    let mut i = p;
-    while 0 < i {
-        i -= 1;
-        let g = page::page_at(store, p, PageNo(i as u32));
-        fine = both(mark_fine(g, next), fine);
+    for i in 0..p {
+        if !mark_fine(page::page_at(store, p, PageNo(i as u32)), next) {
+            return false;
+        }
     }
-    fine
+    true
 }
 
 // ---- one entry
 
 // A proper box, a train, and a stamp that has been given out.
+#[tactic(auto, using(std::proofs::lemmas::Bool::Decides::nat_tests), unfolding(crate::specs::Passes::held_fine, rules::specs::Lists::all_of))]
 fn held_fine(next: Stamp, e: Entry) -> bool
     ensures { result ≡ spec.held_fine next e }
 {
-    if !boxes::proper_box(e.bounds) {
-        return false;
-    }
-    if e.key < 1 {
-        return false;
-    }
-    if e.stamp.0 < 1 {
-        return false;
-    }
-    e.stamp.0 < next.0
+    boxes::proper_box(e.bounds) && 1 <= e.key && 1 <= e.stamp.0 && e.stamp < next
 }
 
 // The stamp is not above the slot's, and for an obsolete entry its leaf's mark is not either.
+#[tactic(auto, using(std::proofs::lemmas::Bool::Decides::nat_tests), unfolding(crate::specs::Passes::noted_fine, rules::specs::Sound::not_above, rules::specs::Memo::latest_by))]
 fn noted_fine(l: LookUp, stamp: Stamp, mark: Stamp) -> bool
     ensures { result ≡ spec.noted_fine l stamp mark }
 {
-    let LookUp::Found {
-        place: _,
-        latest,
-        old: _,
-    } = l
-    else {
-        return true;
-    };
-    if latest.0 < stamp.0 {
-        return false;
+    match l {
+        LookUp::Absent => true,
+        LookUp::Found { latest, .. } => stamp <= latest && (stamp == latest || mark <= latest),
     }
-    if stamp.0 == latest.0 {
-        return true;
-    }
-    mark.0 <= latest.0
 }
 
 // The counter of an obsolete entry is at its slot's place; a latest one has none.
-fn old_place(l: LookUp, stamp: Stamp) -> usize
+#[tactic(auto, using(std::proofs::lemmas::Bool::Decides::nat_tests), unfolding(crate::specs::Passes::old_place))]
+fn old_place(l: LookUp, stamp: Stamp) -> Option<usize>
     ensures { result ≡ spec.old_place l stamp }
 {
-    let LookUp::Found {
-        place,
-        latest,
-        old: _,
-    } = l
-    else {
-        return COUNTERS;
-    };
-    if stamp.0 == latest.0 {
-        return COUNTERS;
+    match l {
+        LookUp::Found { place, latest, .. } if stamp != latest => Some(place),
+        _ => None,
     }
-    place
 }
 
 // Even by the train of a latest entry, odd by the stamp of an obsolete one, so that only two latest ones can share a key.
-fn key_by(at: usize, e: Entry) -> u64
+#[tactic(auto, unfolding(crate::specs::Passes::key_by))]
+fn key_by(at: Option<usize>, e: Entry) -> u64
     ensures { result ≡ spec.key_by at e }
 {
-    if at < COUNTERS {
-        return 2 * wide(e.stamp.0) + 1;
-    }
-    2 * wide(e.key)
-}
-
-// One more at a counter; past the last there is none to count.
-fn count_one(counts: &mut [u32], at: usize)
-    requires { get_or counts.old at 0 ≤ spec.most }
-    ensures { counts.new ≡ set counts.old at (get_or counts.old at 0 + 1) }
-{
-    if at < counts.len() {
-        counts[at] += 1;
+    match at {
+        Some(_) => 2 * u64::from(e.stamp.0) + 1,
+        None => 2 * u64::from(e.key),
     }
 }
 
-// The entry's stamp and key behind those so far, and its counter one up.
-fn note_entry(
-    memo: &[u32],
-    next: Stamp,
-    mark: Stamp,
-    e: Entry,
-    t: Tally,
-    stamps: &mut [u64],
-    keys: &mut [u64],
-    counts: &mut [u32],
-) -> Tally
-    requires memo_words { MemoWords memo.now }
-    requires room { state.Room t stamps.old keys.old counts.old }
-    ensures { state.OneMore next (slots_in memo.now) (with_mark mark e) t result stamps.old stamps.new keys.old keys.new counts.old counts.new }
+// One more at a counter, where there is one.
+fn count_one(counts: &mut [u32], at: Option<usize>)
+    requires { state.Counts counts.old at }
+    ensures { counts.new ≡ state.one_up counts.old at }
 {
-    let n = t.count;
-    let stamp = e.stamp;
+    if let Some(i) = at {
+        counts[i] += 1;
+    }
+}
+
+// The entry's stamp and key behind those so far, and its counter one up; whether the entry is sound.
+#[tactic(auto, using(crate::proofs::Gather::counter_there), unfolding(crate::specs::Passes::entry_fine, crate::specs::Passes::key_of, crate::specs::Passes::counter_of))]
+fn note_entry(memo: &[u32], next: Stamp, mark: Stamp, e: Entry, noted: &mut Noted) -> bool
+    requires memo_words { MemoWords memo.now × (length (slots_in memo.now) ≤ spec.counters) }
+    requires room { state.Room noted.old }
+    ensures { state.OneMore next (slots_in memo.now) (with_mark mark e) noted.old result noted.new }
+{
     let l = memo::look_up(memo, Train(e.key));
-    let at = old_place(l, stamp);
-    stamps[n] = wide(stamp.0);
-    keys[n] = key_by(at, e);
-    count_one(counts, at);
-    let fine = both(held_fine(next, e), noted_fine(l, stamp, mark));
-    Tally {
-        sound: both(t.sound, fine),
-        count: n + 1,
-    }
+    let at = old_place(l, e.stamp);
+    noted.stamps.push(u64::from(e.stamp.0));
+    noted.keys.push(key_by(at, e));
+    count_one(&mut noted.counts, at);
+    held_fine(next, e) && noted_fine(l, e.stamp, mark)
 }
 
-// The entries of page i, each noted in turn; a page that is no leaf holds none.
+// The entries of page i, each noted in turn up to one that is not sound; a page that is no leaf holds none.
+#[tactic(auto, using(crate::proofs::Pages::count_fits))]
 fn note_page(
     store: &[u32],
     memo: &[u32],
     p: usize,
     i: usize,
     next: Stamp,
-    t: Tally,
-    stamps: &mut [u64],
-    keys: &mut [u64],
-    counts: &mut [u32],
-) -> Tally
+    noted: &mut Noted,
+) -> bool
     requires passing { state.Passing store.now memo.now p next × (i < p) }
-    requires before { state.Before store.now i t stamps.old keys.old counts.old }
-    ensures { state.Before store.now (i + 1) result stamps.new keys.new counts.new }
+    requires before { state.Before store.now i noted.old }
+    ensures { state.Tried (store_of store.now) (marked (take (i + 1) (store_of store.now).pages)) result noted.new }
 {
     let g = page::page_at(store, p, PageNo(i as u32));
-    if g.kind != 1 {
-        return t;
+    if g.kind != Kind::Leaf as u32 {
+        return true;
     }
-    let n = g.count as usize;
-    let mark = g.mark;
-    let mut r = t;
-    let mut j = 0;
-    while j < n {
-        let e = page::place_at(g, j);
-        let more = note_entry(memo, next, mark, e, r, stamps, keys, counts);
-        r = more;
-        j += 1;
+    let used = &g.places[..g.count as usize];
+    for &e in used {
+        if !note_entry(memo, next, g.mark, e, noted) {
+            return false;
+        }
     }
-    r
+    true
 }
 
-// The entries of all pages.
-fn note_pages(
-    store: &[u32],
-    memo: &[u32],
-    p: usize,
-    next: Stamp,
-    stamps: &mut [u64],
-    keys: &mut [u64],
-    counts: &mut [u32],
-) -> Tally
+// The entries of all pages, up to one that is not sound.
+fn note_pages(store: &[u32], memo: &[u32], p: usize, next: Stamp, noted: &mut Noted) -> bool
     requires passing { state.Passing store.now memo.now p next }
-    requires fresh { state.Fresh stamps.old keys.old counts.old }
-    ensures { state.Gathered (store_of store.now) (marked (store_of store.now).pages) result stamps.new keys.new counts.new }
+    requires fresh { state.Fresh noted.old }
+    ensures { state.Tried (store_of store.now) (marked (store_of store.now).pages) result noted.new }
 {
-    let mut t = Tally {
-        sound: true,
-        count: 0,
-    };
-    let mut i = 0;
-    while i < p {
-        let more = note_page(store, memo, p, i, next, t, stamps, keys, counts);
-        t = more;
-        i += 1;
+    for i in 0..p {
+        if !note_page(store, memo, p, i, next, noted) {
+            return false;
+        }
     }
-    t
+    true
 }
 
 // ---- keys
 
 // The flag of a key, one of 16,384: a product's middle bits, so that neither neighbours nor multiples often share one.
+#[tactic(auto, unfolding(crate::specs::Apart::flag_of))]
 fn flag_of(key: u64) -> usize
     ensures { (result ≡ spec_apart.flag_of key) × (result < 16384) }
 {
     (key % 4294967296 * 3266489917 / 262144 % 16384) as usize
 }
 
-// Whether the key differs from those at `from` and later.
-fn differs(keys: &[u64], from: usize, key: u64) -> bool
-    requires { from ≤ length keys.now }
-    ensures { result ≡ apart key (drop from keys.now) }
+// Whether the key differs from the later ones, whose flags are set: most often the key's own is not, and no key need be looked at.
+fn is_new(flags: &[bool], later: &[u64], key: u64) -> bool
+    requires flags_len { length flags.now ≡ 16384 }
+    requires flagged { Flagged flags.now later.now }
+    ensures { result ≡ apart key later.now }
 {
-    let mut i = from;
-    while i < keys.len() {
-        if keys[i] == key {
-            return false;
-        }
-        i += 1;
-    }
-    true
-}
-
-// The same where the flags of those keys are set: most often the key's own is not, and no key need be looked at.
-fn is_new(flags: &[bool], keys: &[u64], from: usize, key: u64) -> bool
-    requires flags_len { (length flags.now ≡ 16384) × (from ≤ length keys.now) }
-    requires flagged { Flagged flags.now (drop from keys.now) }
-    ensures { result ≡ apart key (drop from keys.now) }
-{
-    let at = flag_of(key);
-    if !flags[at] {
-        return true;
-    }
-    differs(keys, from, key)
+    let unset = !flags[flag_of(key)];
+    unset || !later.contains(&key)
 }
 
 // What flags tell of keys: that all differ, that two are equal, or nothing, where too many share a flag for the rest to pay.
-#[derive(Clone, Copy)]
+#[derive(Clone, Copy, Debug, PartialEq, Eq)]
 enum Told {
     Apart,
     Equal,
     Crowded,
 }
 
-fn count_if(b: bool) -> usize
-    ensures { result ≤ 1 }
-{
-    if b {
-        return 1;
-    }
-    0
-}
-
 // From the last key to the first each is tried against those behind it, and its flag set. Flags that were set before only cost time.
+#[tactic(auto, using(crate::proofs::Apart::none_tried, crate::proofs::Apart::equal_later, crate::proofs::Apart::one_more, crate::proofs::Apart::all_apart, crate::proofs::Apart::says_nothing))]
 fn all_new(keys: &[u64], flags: &mut [bool]) -> Told
     requires { length flags.old ≡ 16384 }
     ensures { Says result (distinct keys.now) }
 {
     let mut shared = 0;
-    let mut i = keys.len();
-    while 0 < i {
-        i -= 1;
+    for i in (0..keys.len()).rev() {
         let key = keys[i];
         let at = flag_of(key);
-        shared += count_if(flags[at]);
+        shared += usize::from(flags[at]);
         if 64 < shared {
             return Told::Crowded;
         }
-        if !is_new(flags, keys, i + 1, key) {
+        if !is_new(flags, &keys[i + 1..], key) {
             return Told::Equal;
         }
         flags[at] = true;
@@ -323,81 +219,52 @@ fn all_new(keys: &[u64], flags: &mut [bool]) -> Told
     Told::Apart
 }
 
-// Keys in order are distinct if each is below the next.
-fn climbs(keys: &[u64]) -> bool
-    requires { InOrder keys.now }
-    ensures { result ≡ distinct keys.now }
+// Whether the keys are distinct, found by sorting them.
+fn sorted_distinct(keys: &mut [u64]) -> bool
+    ensures { result ≡ distinct keys.old }
 {
-    let mut i = 0;
-    while i + 1 < keys.len() {
-        if keys[i + 1] <= keys[i] {
-            return false;
-        }
-        i += 1;
-    }
-    true
-}
-
-// The first n keys are distinct, found by sorting them.
-fn sorted_distinct(keys: &mut [u64], n: usize) -> bool
-    requires { (n ≤ length keys.old) × (n ≤ spec.most) }
-    ensures { result ≡ distinct (take n keys.old) }
-{
-    let mut work = [0u64; MOST];
-    sort::sort(&mut keys[0..n], &mut work[0..n]);
-    climbs(&keys[0..n])
+    keys.sort_unstable();
+    keys.is_sorted_by(|a, b| a < b)
 }
 
 // The same, found by flags where they tell: few of some hundred keys share one, and keys made to share many are sorted.
-fn first_distinct(keys: &mut [u64], n: usize) -> bool
-    requires { (n ≤ length keys.old) × (n ≤ spec.most) }
-    ensures { result ≡ distinct (take n keys.old) }
+#[tactic(auto, using(crate::proofs::Apart::so_apart, crate::proofs::Apart::so_equal))]
+fn are_distinct(keys: &mut [u64]) -> bool
+    ensures { result ≡ distinct keys.old }
 {
     let mut flags = [false; 16384];
-    match all_new(&keys[0..n], &mut flags) {
+    match all_new(keys, &mut flags) {
         Told::Apart => true,
         Told::Equal => false,
-        Told::Crowded => sorted_distinct(keys, n),
+        Told::Crowded => sorted_distinct(keys),
     }
 }
 
 // ---- the memo
 
 // Of the slot's train n obsolete entries are held.
+#[tactic(auto, using(std::proofs::lemmas::Bool::Decides::nat_tests), unfolding(crate::specs::Passes::slot_fine, rules::specs::Lists::all_of))]
 fn slot_fine(s: Slot, n: u32, next: Stamp) -> bool
     ensures { result ≡ spec.slot_fine next n s }
 {
-    if s.latest.0 < 1 {
-        return false;
-    }
-    if next.0 <= s.latest.0 {
-        return false;
-    }
-    if s.old < 1 {
-        return false;
-    }
-    if s.old < n {
-        return false;
-    }
-    s.old <= s.latest.0
+    1 <= s.latest.0 && s.latest < next && 1 <= s.old && s.old <= s.latest.0 && n <= s.old
 }
 
 // Every used slot with its counter.
+#[tactic(auto, using(crate::proofs::Slots::slots_past, crate::proofs::Slots::slots_unused, crate::proofs::Slots::slot_broken, crate::proofs::Slots::slot_passed))]
 fn slots_fine(memo: &[u32], counts: &[u32], next: Stamp) -> bool
     requires memo_words { MemoWords memo.now }
     requires memo_in_bounds { length (slots_in memo.now) ≤ length counts.now }
     ensures { result ≡ spec.slots_fine next counts.now (slots_in memo.now) }
 {
-    let mut i = 0;
-    while i < counts.len() {
+    for (i, &n) in counts.iter().enumerate() {
         let s = memo::slot_at(memo, i);
-        if s.train.0 == 0 {
+        if s.train == Train(0) {
             return true;
         }
-        if !slot_fine(s, counts[i], next) {
+        if !slot_fine(s, n, next) {
             return false;
         }
-        i += 1;
     }
     true
 }
@@ -409,36 +276,26 @@ fn noted_sound(store: &[u32], memo: &[u32], p: usize, next: Stamp) -> bool
     requires { state.Passing store.now memo.now p next }
     ensures { result ≡ spec.noted_test (store_of store.now) }
 {
-    let mut stamps = [0u64; MOST];
-    let mut keys = [0u64; MOST];
-    let mut counts = [0u32; COUNTERS];
-    let t = note_pages(store, memo, p, next, &mut stamps, &mut keys, &mut counts);
-    if !t.sound {
-        return false;
-    }
-    let n = t.count;
-    if !first_distinct(&mut stamps, n) {
-        return false;
-    }
-    if !first_distinct(&mut keys, n) {
-        return false;
-    }
-    slots_fine(memo, &counts, next)
+    let mut noted = Noted {
+        stamps: ArrayVec::new(),
+        keys: ArrayVec::new(),
+        counts: [0; COUNTERS],
+    };
+    note_pages(store, memo, p, next, &mut noted)
+        && are_distinct(&mut noted.stamps.as_mut_slice())
+        && are_distinct(noted.keys.as_mut_slice())
+        && slots_fine(memo, &noted.counts, next)
 }
 
 // Whether held entries are in range and rules 4 to 7 hold; they are counted before any is written to a buffer.
+#[tactic(auto, using(crate::proofs::Whole::trusted_long, crate::proofs::Whole::memo_held, crate::proofs::Whole::pages_few, crate::proofs::Whole::pages_inside, crate::proofs::Whole::so_known))]
 pub fn entries_sound(store: &[u32]) -> bool
     requires { Trusted store.now }
     ensures { result ≡ spec.entries_rules (store_of store.now) }
 {
     let p = header::pages(store);
     let next = header::next_stamp(store);
-    if !marks_fine(store, p, next) {
-        return false;
-    }
-    if 3 * p < page::held_entries(store, p) {
-        return false;
-    }
-    let memo = memo::part(store);
-    noted_sound(store, memo, p, next)
+    marks_fine(store, p, next)
+        && page::held_entries(store, p) <= 3 * p
+        && noted_sound(store, memo::part(store), p, next)
 }
