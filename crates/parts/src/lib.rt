@@ -57,8 +57,8 @@ pub fn note(store: &mut [u32], t: Train, stamp: Stamp)
     requires counts_below_limit { All (λ m. m.old < limit) (store_of store.old).memo }
     ensures { Became (with_memo (store_of store.old) (noted t stamp (store_of store.old).memo)) store.new }
 {
-    let memo = memo_range(store);
-    memo::note(&mut store[memo], t, stamp);
+    let range = memo_range(store);
+    memo::note(&mut store[range], t, stamp);
 }
 
 // Lowers the train's old count by one.
@@ -66,8 +66,8 @@ fn lower(store: &mut [u32], t: Train)
     requires { Lent store.old }
     ensures { Became (with_memo (store_of store.old) (lowered t (store_of store.old).memo)) store.new }
 {
-    let memo = memo_range(store);
-    memo::lower(&mut store[memo], t);
+    let range = memo_range(store);
+    memo::lower(&mut store[range], t);
 }
 
 // Lowers the old count of each entry of a page that is taken out, one after the other.
@@ -87,8 +87,8 @@ pub fn inspect(store: &mut [u32]) -> usize
     ensures { Freed (smallest_mark (store_of store.old).pages) (store_of store.old) store.new result }
 {
     let mark = page::smallest_mark(store, header::pages(store));
-    let memo = memo_range(store);
-    memo::inspect(&mut store[memo], mark)
+    let range = memo_range(store);
+    memo::inspect(&mut store[range], mark)
 }
 
 // ---- boards
@@ -198,8 +198,8 @@ fn tell_boards<N: News>(store: &mut [u32], news: N) -> usize
 {
     let mut touched = 0;
     for i in 0..header::boards(store) {
-        let board = board_range(store, i);
-        touched += news.tell(&mut store[board]);
+        let range = board_range(store, i);
+        touched += news.tell(&mut store[range]);
     }
     touched
 }
@@ -225,8 +225,8 @@ pub fn close_board(store: &mut [u32], i: usize)
     requires { Lent store.old × (i < length (store_of store.old).boards) }
     ensures { Became (with_boards (store_of store.old) (set (store_of store.old).boards i closed)) store.new }
 {
-    let board = board_range(store, i);
-    board::clear(&mut store[board]);
+    let range = board_range(store, i);
+    board::clear(&mut store[range]);
 }
 
 // Writes an open board with this window, a count of n and these words of sixteen rows.
@@ -237,7 +237,7 @@ fn write_board(b: &mut [u32], w: Window, n: usize, rows: &[u32])
 {
     board::open(b, w);
     b[5] = n as u32;
-    b[6..86].copy_from_slice(rows);
+    b[6..].copy_from_slice(rows);
 }
 
 // Opens board i with this window and the rows that the first n keys name; the rows are read before the board is written.
@@ -249,6 +249,6 @@ pub fn open_board(store: &mut [u32], i: usize, w: Window, keys: &[u64], n: usize
 {
     let mut rows = [0u32; 80];
     query::write_rows(store, keys, n, &mut rows);
-    let board = board_range(store, i);
-    write_board(&mut store[board], w, n, &rows);
+    let range = board_range(store, i);
+    write_board(&mut store[range], w, n, &rows);
 }

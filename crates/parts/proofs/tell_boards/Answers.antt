@@ -11,11 +11,11 @@ loop-i-init g c = record {
   telling = telling_none (g.N.News.tell c.args.news) (g.N.News.train c.args.news) _ c.requires.lent c.requires.keeps;
 }
 
-pub board_range-board-requires-clause-placed : goal.board_range-board-requires-clause-placed
-board_range-board-requires-clause-placed g c = search (rules, lent_placed, telling_lent)
+pub board_range-range-requires-clause-placed : goal.board_range-range-requires-clause-placed
+board_range-range-requires-clause-placed g c = search (rules, lent_placed, telling_lent)
 
-pub board_range-board-requires-clause-i_in_bounds : goal.board_range-board-requires-clause-i_in_bounds
-board_range-board-requires-clause-i_in_bounds g c =
+pub board_range-range-requires-clause-i_in_bounds : goal.board_range-range-requires-clause-i_in_bounds
+board_range-range-requires-clause-i_in_bounds g c =
     let inside : c.loop-i.i < length (store_of c.args.store.now).boards = omega arith in
     search (rules, telling_inside, inside)
 
