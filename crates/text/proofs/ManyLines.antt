@@ -9,11 +9,12 @@ use lib.ListN.{length, take, drop, length-drop, drop_of_length-le}
 use lib.Seq.{length-take-le}
 use borrow.Author.Tests.{not-true, not-false}
 use borrow.Rule.Slice.PartMut.{put_mid}
-use Rattle.text.specs.declared.StepCount.{StepCount}
+use Rattle.std.specs.Prelude.{Result, Ok, Err}
+use Rattle.text.specs.declared.BadLine.{BadLine}
 use Rattle.text.specs.Reading.{parts, newline, lines, is_step, words_read, good, has_bad, all_read}
 use Rattle.text.specs.Laid.{Laid, Partly, none_yet, one_more, all_laid, laid_length, lent_laid}
 use Rattle.text.specs.Laws.{line_long, words_same, words_many, none_good, bad_good, bad_has, bad_read, step-good, step-has, step-read}
-use Rattle.text.specs.Promised.{Until, LineRead, StepsRead}
+use Rattle.text.specs.Promised.{Until, LineRead, StepsRead, good_count, bad_met}
 use Rattle.text.specs.Cutting.{next_line}
 
 -- the lines from place `at` on are what is left, after `count` steps
@@ -25,7 +26,7 @@ pub record Stepping (ls : List (List ℕ)) (out now : List ℕ) (count : ℕ) (r
 pub stepping_all : (ls : List (List ℕ)) (out : List ℕ) → Stepping ls out out 0 ls
 stepping_all ls out = record { counted = omega arith; ended = refl; written = none_yet out 0 (all_read ls) (omega arith) }
 
-steps_read : (ls : List (List ℕ)) (out now : List ℕ) (r : StepCount) (to : ℕ) → r.count ≡ good ls → r.bad ≡ has_bad ls → Laid out 0 (all_read ls) now to → StepsRead ls out r now
+steps_read : (ls : List (List ℕ)) (out now : List ℕ) (r : Result ℕ BadLine) (to : ℕ) → good_count r ≡ good ls → bad_met r ≡ has_bad ls → Laid out 0 (all_read ls) now to → StepsRead ls out r now
 steps_read ls out now r to c b l =
     let z : to ≡ length (all_read ls) = omega (arith, l.ends) in
     record { counted = c; ended = b; read = rw (← z) l }
@@ -34,13 +35,13 @@ module _ (text : List ℕ) (ls : List (List ℕ)) (out now : List ℕ) (count at
   now_long : length now ≡ length out
   now_long = laid_length s.written.laid
 
-  pub all_steps : length text ≤ at → StepsRead ls out (record { count = count; bad = false }) now
+  pub all_steps : length text ≤ at → StepsRead ls out (Ok count) now
   unfolding all_read has_bad parts
   all_steps h =
       let d : drop at text ≡ [] = drop_of_length-le text h in
       let c : good ls ≡ count + 0 = rw (d, none_good) at s.counted in
       let b : has_bad ls ≡ false = s.ended ∙ rw (d, none_good) in
-      steps_read ls out now (record { count = count; bad = false }) (6 * count) (omega arith) (sym b) (all_laid s.written (rw d))
+      steps_read ls out now (Ok count) (6 * count) (omega arith) (sym b) (all_laid s.written (rw d))
 
   module _ (inside : at < length text) (few : 12 * count ≤ at) (room : length text + 12 ≤ 2 * length out) (e : ℕ) (u : Until text at newline e) where
     abbrev l : List ℕ
@@ -71,13 +72,13 @@ module _ (text : List ℕ) (ls : List (List ℕ)) (out now : List ℕ) (count at
       pub still_long : length (put_mid a (a + 6 - a) now part) ≡ length out
       still_long = laid_length piece ∙ now_long
 
-      pub ends_bad : not r ≡ true → StepsRead ls out (record { count = count; bad = true }) (put_mid a (a + 6 - a) now part)
+      pub ends_bad : not r ≡ true → StepsRead ls out (Err (record { after = count })) (put_mid a (a + 6 - a) now part)
       ends_bad t =
           let b : is_step l ≡ false = sym said ∙ not-true r t in
           let c : good ls ≡ count + 0 = s.counted ∙ rw parted (ap (λ n. count + n) (bad_good l later b)) in
           let h : has_bad ls ≡ true = s.ended ∙ rw parted (bad_has l later b) in
           let w : all_read (lines (drop at text)) ≡ words_read 6 l ++ [] = rw parted (bad_read l later b) ∙ sym (append-nil (words_read 6 l)) in
-          steps_read ls out _ (record { count = count; bad = true }) (a + length (words_read 6 l)) (omega arith) (sym h) (all_laid (one_more s.written piece w) refl)
+          steps_read ls out _ (Err (record { after = count })) (a + length (words_read 6 l)) (omega arith) (sym h) (all_laid (one_more s.written piece w) refl)
 
       pub one_step : not r ≡ false → Stepping ls out (put_mid a (a + 6 - a) now part) (count + 1) later
       one_step t =

@@ -12,19 +12,6 @@ use Rattle.text.specs.Printing.{bytes, ended, decimal, line, start_line, bad_lin
 use Rattle.text.specs.Laid.{Laid, Partly, none_yet, one_more, all_laid, one_laid, both_laid, laid_length}
 use Rattle.text.specs.Decimals.{decimal_small, decimal_large, nine_digits}
 
--- ---- bytes
-pub bytes_none : (bytes out : List ℕ) (at : ℕ) → at + length bytes ≤ length out → Partly out at bytes out (at + 0) bytes
-bytes_none bytes out at h = let z : at + 0 ≡ at = omega arith in rw z (none_yet out at bytes (omega arith))
-
-module _ (bytes out : List ℕ) (at : ℕ) (now : List ℕ) (i : ℕ) (p : Partly out at bytes now (at + i) (drop i bytes)) where
-  pub byte_more : i < length bytes → at + length bytes ≤ length out → Partly out at bytes (set now (at + i) (get_or bytes i 0)) (at + (i + 1)) (drop (i + 1) bytes)
-  byte_more h k =
-      let n : at + i + 1 ≡ at + (i + 1) = omega arith in
-      rw (← n, add-one i) (one_more p (one_laid now (at + i) (get_or bytes i 0) (omega (arith, laid_length p.laid))) (drop-cons bytes i 0 h))
-
-  pub bytes_all : length bytes ≤ i → Laid out at bytes now (at + i)
-  bytes_all h = all_laid p (drop_of_length-le bytes h)
-
 -- ---- a decimal
 pub end_between : (left : ℕ) → (left ≡ 0 → ⊥) → 32 ≡ ended left
 end_between zero h = absurd (h refl)
