@@ -40,19 +40,14 @@ fn decimal(field: &[u8]) -> Option<u32>
 pub fn numbers(line: &[u8], out: &mut [u32]) -> bool
     ensures { LineRead line.now out.old result out.new }
 {
-    let mut at = 0;
+    let mut fields = line.split(|&b| b == b' ');
     for i in 0..out.len() {
-        let e = until(line, at, b' ');
-        let Some(value) = decimal(&line[at..e]) else {
+        let Some(value) = fields.next().and_then(decimal) else {
             return false;
         };
         out[i] = value;
-        if e == line.len() {
-            return i + 1 == out.len();
-        }
-        at = e + 1;
     }
-    false
+    fields.next().is_none()
 }
 
 // A bad line ended the steps, after so many good ones.

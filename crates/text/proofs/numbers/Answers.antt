@@ -1,18 +1,22 @@
 use Rattle.std.proofs.Common.{rules}
-use Rattle.text.proofs.Lines.{scanning_all, stops, ends, goes_on, full}
+use borrow.Author.Tests.{tests}
+use Rattle.text.proofs.Lines.{scanning_all, next_field, stops, goes_on, full}
 use Rattle.text.proofs.numbers.Goals as goal
 
 pub loop-i-init : goal.loop-i-init
-loop-i-init c = search (rules, scanning_all)
+loop-i-init c = rw (c.split-fields.ensures.rest, c.split-fields.ensures.done) (scanning_all _ _)
 
 pub returns-in_default : goal.returns-in_default
-returns-in_default c = search (rules, stops)
-
-pub returns-then-e-line : goal.returns-then-e-line
-returns-then-e-line c = search (rules, ends)
+returns-in_default c =
+    let left = next_field _ _ _ c.next.result c.next.ensures.steps (λ x b q k. search (rules, tests)) in
+    stops _ _ _ _ _ c.loop-i.invariant c.loop-i-test.true _ _ left _ c.and_then.ensures c.in_default.is
 
 pub loop-i-preserved : goal.loop-i-preserved
-loop-i-preserved c = search (rules, goes_on)
+loop-i-preserved c =
+    let left = next_field _ _ _ c.next.result c.next.ensures.steps (λ x b q k. search (rules, tests)) in
+    goes_on _ _ _ _ _ c.loop-i.invariant c.loop-i-test.true _ _ left _ c.and_then.ensures _ c.in-Some.is
 
 pub returns : goal.returns
-returns c = search (rules, full)
+returns c =
+    let left = next_field _ _ _ c.next-2.result c.next-2.ensures.steps (λ x b q k. search (rules, tests)) in
+    full _ _ _ _ _ c.loop-i.invariant (search rules) _ _ left _ c.is_none.ensures

@@ -1,7 +1,6 @@
--- The fields from a place on decide, and give the words that are left.
-use Rattle.std.proofs.Common.{◌≡◌, ◌≤◌, length}
-use Rattle.text.proofs.Lines.{Scanning}
+-- The fields that are left decide, and give the words that are left.
+use Rattle.text.proofs.Lines.{Scanning, split_left}
 use Rattle.text.proofs.numbers.Given as goal
 
 abbrev pub invariant-loop-i : goal.invariant-loop-i
-invariant-loop-i l = record { in_line : l.at ≤ length l.line; left : Scanning l.line l.initial.out l.out l.at l.i }
+invariant-loop-i l = Scanning l.line l.initial.out l.out (split_left l.fields) l.i
