@@ -41,11 +41,11 @@ pub fn numbers(line: &[u8], out: &mut [u32]) -> bool
     ensures { LineRead line.now out.old result out.new }
 {
     let mut fields = line.split(|&b| b == b' ');
-    for i in 0..out.len() {
+    for word in out.iter_mut() {
         let Some(value) = fields.next().and_then(decimal) else {
             return false;
         };
-        out[i] = value;
+        *word = value;
     }
     fields.next().is_none()
 }

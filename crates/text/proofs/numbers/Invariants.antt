@@ -2,5 +2,5 @@
 use Rattle.text.proofs.Lines.{Scanning, split_left}
 use Rattle.text.proofs.numbers.Given as goal
 
-abbrev pub invariant-loop-i : goal.invariant-loop-i
-invariant-loop-i l = Scanning l.line l.initial.out l.out (split_left l.fields) l.i
+abbrev pub invariant-loop-word : goal.invariant-loop-word
+invariant-loop-word l = Scanning l.line l.initial.out l.out (split_left l.fields) l.word-index
