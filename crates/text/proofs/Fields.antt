@@ -3,7 +3,6 @@ use Rattle.std.specs.Prelude.{ℕ, suc, ◌+◌, ◌*◌, ◌-◌, ◌≤◌, �
 use Rattle.std.proofs.Common.{arith, add-one, sym, ap, ◌∙◌, length-drop, take_all, drop_of_length-le, drop-cons}
 use Rattle.std.proofs.lemmas.Bool.{eqb-true, lt-ltb, ltb-false, le-leb, lt-leb}
 use Rattle.std.proofs.Math.Bool.{and-true, and-false}
-use native.Mathlib.Numerals.{unary_clauses}
 use Rattle.std.specs.List.{position, position_or_len}
 use Rattle.std.specs.Option.{unwrap_or}
 use Rattle.std.specs.Char.{is_ascii_digit}
@@ -15,7 +14,7 @@ use Rattle.text.specs.Reading.{is_digit, value_from, value, is_decimal, number_i
 use Rattle.text.specs.Promised.{Until}
 
 -- ---- the first that passes: the rules' word and std's
-first_std : (f : ℕ → Bool) (xs : List ℕ) → first f xs ≡ position_or_len f xs
+pub first_std : (f : ℕ → Bool) (xs : List ℕ) → first f xs ≡ position_or_len f xs
 unfolding first
 first_std f xs = is_position_or_len (first f) f refl (λ x ys. let e : suc (first f ys) ≡ 1 + first f ys = omega arith in ap (cond (f x) 0) e) xs
 

@@ -1,11 +1,11 @@
 -- Reading a line field by field. Assumes nothing.
-use Rattle.std.specs.Prelude.{ℕ, zero, suc, ◌+◌, ◌-◌, ◌≤◌, ◌<◌, ◌≡◌, refl, Bool, true, false, ◌&&◌, not, cond, Option, Some, None, MatchOption, List, [], ◌∷◌, ◌++◌, eqb, length, get_or, take, drop, set}
-use Rattle.std.proofs.Common.{arith, Bor, MutBor, sym, ap, subst, ◌∙◌}
+use Rattle.std.specs.Prelude.{ℕ, suc, ◌+◌, ◌-◌, ◌≤◌, ◌<◌, ◌≡◌, refl, Bool, true, false, ◌&&◌, not, cond, Option, Some, None, MatchOption, List, [], ◌∷◌, ◌++◌, eqb, length, get_or, take, set}
+use Rattle.std.proofs.Common.{arith, Bor, sym, ap, subst, ◌∙◌}
 use Rattle.std.proofs.lemmas.Bool.{ne_eqb}
 use Rattle.std.proofs.lemmas.Grind.{common_steps}
 use Rattle.std.proofs.lemmas.Fn.{always_returns_same}
 use Rattle.std.proofs.lemmas.List.Splits.{slice_split_none, slice_split_at}
-use Rattle.std.proofs.Math.Bool.{and-true, and-false}
+use Rattle.std.proofs.Math.Bool.{and-false}
 use Rattle.std.specs.Bool.{MatchBool}
 use Rattle.std.specs.Fn.{ComputesKey, CalledAt}
 use Rattle.std.specs.List.{All, slice_split, onto_first, IsFirstMatchOrLen}
@@ -15,7 +15,7 @@ use Rattle.std.specs.declared.slice.Split.{Split}
 use denote.Param.Members.{Mut}
 use lib.Dec.{eqb-suc-suc}
 use Rattle.rules.specs.Lists.{every, all_of}
-use Rattle.text.specs.Reading.{onto, parts, space, fields, is_decimal, value, number_in, all_decimals, in_form, words_before, words_read}
+use Rattle.text.specs.Reading.{onto, parts, fields, is_decimal, value, number_in, all_decimals, in_form, words_before, words_read}
 use Rattle.text.specs.Laid.{Laid, Partly, none_yet, one_more, all_laid, one_laid, laid_length}
 use Rattle.text.specs.Promised.{LineRead}
 

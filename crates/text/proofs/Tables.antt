@@ -1,15 +1,14 @@
 -- Laying out a line for each step, and a line for each row. Assumes nothing.
 use Prim.Native.Nat.{ℕ, suc, ◌+◌, ◌*◌, ◌-◌, ◌≤◌, ◌<◌}
 use native.Mathlib.Omega.{arith}
-use native.Mathlib.Nat.{mul-zero, mul-suc, add-sub_cancel_left}
+use native.Mathlib.Nat.{mul-zero, mul-suc}
 use native.Mathlib.Numerals.{add-one}
 use mathlib.Core.Path.{◌≡◌, ◌∙◌, ap}
 use mathlib.Core.List.{List, [], ◌∷◌, ◌++◌, flat_map}
-use lib.ListN.{length, get_or, take, drop, length-drop, drop_of_length-le}
-use lib.Seq.{drop-cons, drop-drop, get_or-drop, get_or-take, length-take-le}
+use lib.ListN.{length, get_or, take, drop, drop_of_length-le}
+use lib.Seq.{drop-cons, drop-drop, get_or-drop, get_or-take}
 use Rattle.rules.specs.Lists.{cut}
 use Rattle.rules.specs.laws.Places.{cut-length}
-use Rattle.rules.specs.laws.Splice.{lent}
 use Rattle.text.specs.Printing.{bytes, decimal, line, step_lines, board_title, board_lines}
 use Rattle.text.specs.Laid.{Laid, Partly, none_yet, one_more, all_laid, both_laid}
 

@@ -16,7 +16,10 @@ pub fn until(text: &[u8], from: usize, b: u8) -> usize
     requires { from ≤ length text.now }
     ensures { Until text.now from b result }
 {
-    from + text[from..].iter().position(|&c| c == b).unwrap_or(text.len() - from)
+    from + text[from..]
+        .iter()
+        .position(|&c| c == b)
+        .unwrap_or(text.len() - from)
 }
 
 // The decimal that a whole field is.
@@ -63,14 +66,12 @@ pub fn steps(text: &[u8], from: usize, out: &mut [u32]) -> Result<usize, BadLine
     ensures count_in_bounds { 12 * good_count result ≤ length text.now + 1 }
 {
     let mut count = 0;
-    let mut at = from;
-    while at < text.len() {
-        let e = until(text, at, b'\n');
-        if !numbers(&text[at..e], &mut out[6 * count..6 * count + 6]) {
+    for line in text[from.min(text.len())..].split_inclusive(|&b| b == b'\n') {
+        let line = line.strip_suffix(b"\n").unwrap_or(line);
+        if !numbers(line, &mut out[6 * count..6 * count + 6]) {
             return Err(BadLine { after: count });
         }
         count += 1;
-        at = e + 1;
     }
     Ok(count)
 }

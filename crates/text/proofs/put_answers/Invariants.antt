@@ -1,5 +1,5 @@
 -- The steps from i on are left.
-use Rattle.std.proofs.Common.{◌≡◌, ◌+◌, ◌*◌, ◌≤◌, length}
+use Rattle.std.proofs.Common.{◌+◌, ◌*◌, ◌≤◌}
 use Rattle.rules.specs.Lists.{cut}
 use Rattle.text.specs.Printing.{step_lines}
 use Rattle.text.specs.Laid.{Partly}

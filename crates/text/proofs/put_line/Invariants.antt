@@ -1,5 +1,5 @@
 -- The decimals from i on are left.
-use Rattle.std.proofs.Common.{◌≡◌, ◌+◌, ◌*◌, ◌≤◌, length, drop}
+use Rattle.std.proofs.Common.{◌+◌, ◌*◌, ◌≤◌, drop}
 use Rattle.text.specs.Printing.{line}
 use Rattle.text.specs.Laid.{Partly}
 use Rattle.text.proofs.put_line.Given as goal

@@ -1,5 +1,5 @@
 -- The rows from this one on are left.
-use Rattle.std.proofs.Common.{◌≡◌, ◌+◌, ◌*◌, ◌≤◌, length, drop}
+use Rattle.std.proofs.Common.{◌+◌, ◌*◌, ◌≤◌, drop}
 use mathlib.Core.List.{flat_map}
 use Rattle.rules.specs.Lists.{cut}
 use Rattle.text.specs.Printing.{line}
