@@ -12,7 +12,7 @@ use borrow.Rule.Slice.PartMut.{put_mid}
 use Rattle.std.specs.Prelude.{Result, Ok, Err}
 use Rattle.text.specs.declared.BadLine.{BadLine}
 use Rattle.text.specs.Reading.{parts, newline, lines, is_step, words_read, good, has_bad, all_read}
-use Rattle.text.specs.Laid.{Laid, Partly, none_yet, one_more, all_laid, laid_length, lent_laid}
+use Rattle.text.specs.Laid.{Laid, Partly, one_more, all_laid, laid_length, lent_laid}
 use Rattle.text.specs.Laws.{line_long, words_same, words_many, none_good, bad_good, bad_has, bad_read, step-good, step-has, step-read}
 use Rattle.text.specs.Promised.{LineRead, StepsRead, good_count, bad_met}
 use Rattle.text.proofs.Pieces.{Piece}
@@ -24,9 +24,6 @@ pub record Stepping (ls : List (List ℕ)) (out now : List ℕ) (count : ℕ) (r
   pub counted : good ls ≡ count + good rest
   pub ended : has_bad ls ≡ has_bad rest
   pub written : Partly out 0 (all_read ls) now (6 * count) (all_read rest)
-
-pub stepping_all : (ls : List (List ℕ)) (out : List ℕ) → Stepping ls out out 0 ls
-stepping_all ls out = record { counted = omega arith; ended = refl; written = none_yet out 0 (all_read ls) (omega arith) }
 
 steps_read : (ls : List (List ℕ)) (out now : List ℕ) (r : Result ℕ BadLine) (to : ℕ) → good_count r ≡ good ls → bad_met r ≡ has_bad ls → Laid out 0 (all_read ls) now to → StepsRead ls out r now
 steps_read ls out now r to c b l =

@@ -1,7 +1,7 @@
 -- Laying out a line for each step, and a line for each row. Assumes nothing.
 use Prim.Native.Nat.{ℕ, suc, ◌+◌, ◌*◌, ◌-◌, ◌≤◌, ◌<◌}
 use native.Mathlib.Omega.{arith}
-use native.Mathlib.Nat.{mul-zero, mul-suc}
+use native.Mathlib.Nat.{mul-suc}
 use native.Mathlib.Numerals.{add-one}
 use mathlib.Core.Path.{◌≡◌, ◌∙◌, ap}
 use mathlib.Core.List.{List, [], ◌∷◌, ◌++◌, flat_map}
@@ -10,12 +10,9 @@ use lib.Seq.{drop-cons, drop-drop, get_or-drop, get_or-take}
 use Rattle.rules.specs.Lists.{cut}
 use Rattle.rules.specs.laws.Places.{cut-length}
 use Rattle.text.specs.Printing.{bytes, decimal, line, step_lines, board_title, board_lines}
-use Rattle.text.specs.Laid.{Laid, Partly, none_yet, one_more, all_laid, both_laid}
+use Rattle.text.specs.Laid.{Laid, Partly, one_more, all_laid, both_laid}
 
 -- ---- parts of one size, from the i-th on
-parts_all : (n size : ℕ) (ws : List ℕ) → cut (n - 0) size (drop (size * 0) ws) ≡ cut n size ws
-parts_all n size ws = let z : n - 0 ≡ n = omega arith in rw (z, mul-zero size)
-
 parts_none : (n i size : ℕ) (ws : List ℕ) → n ≤ i → cut (n - i) size ws ≡ []
 parts_none n i size ws h = let z : n - i ≡ 0 = omega arith in rw z
 
@@ -35,9 +32,6 @@ answers_left steps answers n i = step_lines (cut (n - i) 6 (drop (6 * i) steps))
 module _ (steps answers : List ℕ) (n : ℕ) (out : List ℕ) (at : ℕ) where
   abbrev told : List ℕ
   told = step_lines (cut n 6 steps) answers
-
-  pub answers_none : at + 33 * n ≤ length out → Partly out at told out at (answers_left steps answers n 0)
-  answers_none h = rw (parts_all n 6 steps) (none_yet out at told (omega arith))
 
   module _ (now : List ℕ) (to i : ℕ) (p : Partly out at told now to (answers_left steps answers n i)) where
     pub answer_more : i < n → (after : List ℕ) (e : ℕ) → Laid now to (line (get_or steps (6 * i) 0 ∷ get_or answers (2 * i) 0 ∷ get_or answers (2 * i + 1) 0 ∷ [])) after e
