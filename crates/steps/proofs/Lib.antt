@@ -1,6 +1,5 @@
-pub mod Form
-pub mod Tests
 pub mod Entries
 pub mod Effects
 pub mod Cleaned
+pub mod Tests
 pub mod Ways
