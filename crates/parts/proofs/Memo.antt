@@ -116,5 +116,3 @@ module _ (v : List ℕ) (es : List Entry) (w : List ℕ) (i : ℕ) (so : Lowerin
         now = rw memo (became_then (λ s. with_memo s (lowered (train_of (get_or es i no_place)) (store_of w).memo)) so.now b);
         left = rw memo (rw first at so.left);
       }
-
--- a page's used places
