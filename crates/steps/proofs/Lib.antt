@@ -1,5 +1,4 @@
 pub mod Entries
 pub mod Effects
 pub mod Cleaned
-pub mod Tests
 pub mod Ways

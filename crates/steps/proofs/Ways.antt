@@ -20,15 +20,11 @@ use Rattle.theorems.specs.Accepted.{TakesStamp, AcceptedReport, accepted_report,
 use Rattle.theorems.specs.EveryStep.{clean_accepted, inspect_accepted}
 use Rattle.steps.specs.declared.order.Order.TheVariants.{Report, Withdraw, Clean, Inspect, Open, Close}
 use Rattle.steps.specs.Orders.{report_step, withdraw_step, clean_step, inspect_step, open_step, close_step, order_given}
-use Rattle.steps.specs.Refusals.{report_tests, withdraw_tests, opening_tests, rows_test, close_tests, numbered, out_of_form, report-refusal, withdraw-refusal, open_refusal, close_refusal}
+use Rattle.steps.specs.Refusals.{report_tests, withdraw_tests, opening_tests, rows_test, close_tests, numbered, handed_on, out_of_form, report-refusal, withdraw-refusal, open_refusal, close_refusal}
 use Rattle.steps.specs.Stepping.{Given, Effected, Stepped, KeepsHeld, stepped_refused, stepped_accepted}
 use Rattle.steps.proofs.Entries.{report-entries, withdraw-entries, clean-entries, inspect-entries, open_entries, close_entries}
 
 -- ---- a step that is refused with e, which `?` hands on as r
-pub handed_on : (r : Result ℕ Refusal) (e : Refusal) → IsErr r × IsErrAnd r (λ f. f ≡ e) → r ≡ Err e
-handed_on (Ok n) e h = grind (arith, h)
-handed_on (Err f) e h = grind (arith, h)
-
 pub refused_as : (w : List ℕ) (x : Step) (e : Refusal) → number_of e ≡ refusal (store_of w) x → KeepsHeld w x w (number_of e) 0
 refused_as w x e h n g = stepped_refused w n x g (number_of e) h (numbered e)
 

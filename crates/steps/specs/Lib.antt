@@ -2,3 +2,4 @@
 pub mod Orders
 pub mod Refusals
 pub mod Stepping
+pub mod Tests

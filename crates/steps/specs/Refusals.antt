@@ -1,6 +1,6 @@
 -- What a step of each kind can be refused with: of the tests in the table, those that its kind can meet.
-use Rattle.std.specs.Prelude.{◌*◌, ◌≡◌, true, false, not, List, [], ◌∷◌, ◌++◌, eqb, leb, ltb, length}
-use Rattle.std.proofs.Common.{arith}
+use Rattle.std.specs.Prelude.{◌*◌, ◌≡◌, true, false, not, List, [], ◌∷◌, ◌++◌, eqb, leb, ltb, length, Result, Ok, Err, IsErr, IsErrAnd}
+use Rattle.std.proofs.Common.{arith, ap}
 use Rattle.std.proofs.Math.Bool.{or-false}
 use Rattle.rules.specs.declared.Step.{Step}
 use Rattle.rules.specs.Lists.{some_one}
@@ -41,6 +41,15 @@ close_tests s x = (9 when leb (length s.boards) x.a) ∷ (10 when not (is_open (
 -- no refusal has the number of what is done
 pub numbered : (e : Reason) → number_of e ≡ 0 → ⊥
 numbered e = grind arith
+
+-- each has its own
+pub number_settles : (e f : Reason) → number_of e ≡ number_of f → e ≡ f
+number_settles e f h = grind arith
+
+-- a refusal that `?` hands on
+pub handed_on : {A : Type 0} (r : Result A Reason) (e : Reason) → IsErr r × IsErrAnd r (λ f. f ≡ e) → r ≡ Err e
+handed_on (Ok x) e h = absurd h.1
+handed_on (Err f) e h = ap Err h.1
 
 module _ (s : Store) (x : Step) where
   -- a step that isn't in form is refused with 6

@@ -24,7 +24,7 @@ const LAST: Stamp = Stamp(u32::MAX);
 // ---- what a step is refused with, the lowest number first
 
 // How many entries are held is given, so that no pass over the pages counts them.
-#[tactic(auto, using(std::proofs::lemmas::Bool::Decides::nat_tests, crate::proofs::Tests::next_there, crate::proofs::Tests::pages_there, crate::proofs::Tests::given_long), unfolding(rules::specs::Numbers::first_met))]
+#[tactic(auto, using(std::proofs::lemmas::Bool::Decides::nat_tests, crate::specs::Tests::next_there, crate::specs::Tests::pages_there, crate::specs::Tests::given_long), unfolding(rules::specs::Numbers::first_met))]
 fn report_allowed(store: &[u32], train: Train, bounds: Box, held: usize) -> Result<(), Refusal>
     requires { Given store.now held }
     ensures { answer_number result ≡ first_met (report_tests (store_of store.now) (report_step train bounds)) }
@@ -50,7 +50,7 @@ fn report_allowed(store: &[u32], train: Train, bounds: Box, held: usize) -> Resu
     Ok(())
 }
 
-#[tactic(auto, using(std::proofs::lemmas::Bool::Decides::nat_tests, crate::proofs::Tests::next_there, crate::proofs::Tests::sound_long), unfolding(rules::specs::Numbers::first_met))]
+#[tactic(auto, using(std::proofs::lemmas::Bool::Decides::nat_tests, crate::specs::Tests::next_there, crate::specs::Tests::sound_long), unfolding(rules::specs::Numbers::first_met))]
 fn withdraw_allowed(store: &[u32], train: Train) -> Result<(), Refusal>
     requires { sound_words store.now ≡ true }
     ensures { answer_number result ≡ first_met (withdraw_tests (store_of store.now) (withdraw_step train)) }
@@ -68,7 +68,7 @@ fn withdraw_allowed(store: &[u32], train: Train) -> Result<(), Refusal>
 }
 
 // Too many rows are known only once those of the window are found, and are left to the opening itself.
-#[tactic(auto, using(std::proofs::lemmas::Bool::Decides::nat_tests, crate::proofs::Tests::boards_there, crate::proofs::Tests::sound_long), unfolding(rules::specs::Numbers::first_met))]
+#[tactic(auto, using(std::proofs::lemmas::Bool::Decides::nat_tests, crate::specs::Tests::boards_there, crate::specs::Tests::sound_long), unfolding(rules::specs::Numbers::first_met))]
 fn open_allowed(store: &[u32], board: u32, window: Window) -> Result<(), Refusal>
     requires { sound_words store.now ≡ true }
     ensures { answer_number result ≡ first_met (opening_tests (store_of store.now) (open_step board window)) }
@@ -85,7 +85,7 @@ fn open_allowed(store: &[u32], board: u32, window: Window) -> Result<(), Refusal
     Ok(())
 }
 
-#[tactic(auto, using(std::proofs::lemmas::Bool::Decides::nat_tests, crate::proofs::Tests::boards_there, crate::proofs::Tests::sound_long), unfolding(rules::specs::Numbers::first_met))]
+#[tactic(auto, using(std::proofs::lemmas::Bool::Decides::nat_tests, crate::specs::Tests::boards_there, crate::specs::Tests::sound_long), unfolding(rules::specs::Numbers::first_met))]
 fn close_allowed(store: &[u32], board: u32) -> Result<(), Refusal>
     requires { sound_words store.now ≡ true }
     ensures { answer_number result ≡ first_met (close_tests (store_of store.now) (close_step board)) }
@@ -102,7 +102,7 @@ fn close_allowed(store: &[u32], board: u32) -> Result<(), Refusal>
 // ---- what an accepted step does
 
 // Takes the next stamp and notes it as the train's latest.
-#[tactic(auto, using(crate::proofs::Tests::sound_long))]
+#[tactic(auto, using(crate::specs::Tests::sound_long))]
 fn take_stamp(store: &mut [u32], train: Train) -> Stamp
     requires sound { sound_words store.old ≡ true }
     requires takes_stamp { TakesStamp (store_of store.old) train }
@@ -131,7 +131,7 @@ fn put_report(store: &mut [u32], train: Train, bounds: Box) -> u32
 }
 
 // Takes the obsolete entries out of the leaf with the smallest mark, which becomes the next stamp, and says how many they were.
-#[tactic(auto, using(crate::proofs::Tests::sound_long))]
+#[tactic(auto, using(crate::specs::Tests::sound_long))]
 fn clean_leaf(store: &mut [u32]) -> u32
     requires { sound_words store.old ≡ true }
     ensures { Effected (rules.clean (store_of store.old)) store.new result }

@@ -1,6 +1,6 @@
 use Rattle.std.proofs.Common.{rules}
 use Rattle.rules.specs.laws.Placed.{pages_most, pages_room}
-use Rattle.steps.proofs.Tests.{sound_placed}
+use Rattle.steps.specs.Tests.{sound_placed}
 use Rattle.steps.proofs.Cleaned.{readable, cleanable, gone_few, cleaned_lent, clean-effect}
 use Rattle.steps.proofs.clean_leaf.Goals as goal
 

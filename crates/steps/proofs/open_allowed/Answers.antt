@@ -1,5 +1,5 @@
 use Rattle.std.proofs.Common.{rules}
-use Rattle.steps.proofs.Tests.{sound_placed}
+use Rattle.steps.specs.Tests.{sound_placed}
 use Rattle.steps.proofs.open_allowed.Goals as goal
 
 pub is_open-requires-clause-placed : goal.is_open-requires-clause-placed

@@ -3,7 +3,7 @@ use Rattle.std.proofs.lemmas.Bool.Decides.{nat_tests}
 use Rattle.rules.specs.Numbers.{first_met}
 use Rattle.parts.specs.Laws.{sound_lent}
 use Rattle.steps.specs.Stepping.{given_sound}
-use Rattle.steps.proofs.Tests.{next_there, pages_there}
+use Rattle.steps.specs.Tests.{next_there, pages_there}
 use Rattle.steps.proofs.report_allowed.Goals as goal
 
 pub no_slot_left-requires : goal.no_slot_left-requires
