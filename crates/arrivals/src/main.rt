@@ -9,20 +9,6 @@ ghost use Rattle.text.specs.Program.{printed};
 use std::io;
 use std::io::{Read, Write};
 
-// A byte more than is looked at: an input that fills it is too long.
-fn input_space() -> [u8; 65537]
-    ensures { 65537 ≡ length result }
-{
-    [0; 65537]
-}
-
-// Room for the longest output.
-fn output_space() -> [u8; 209446]
-    ensures { 209446 ≡ length result }
-{
-    [0; 209446]
-}
-
 // Reads an input, up to a byte more than is looked at, and lays out what it comes to.
 fn lay_out<R: Read>(reader: &mut R, output: &mut [u8]) -> io::Result<usize>
     requires { 209446 ≤ length output.old }
@@ -30,7 +16,8 @@ fn lay_out<R: Read>(reader: &mut R, output: &mut [u8]) -> io::Result<usize>
     ensures rest { IfOk result (λ n. IfSome (R.remaining reader.old) (λ bytes. R.remaining reader.new ≡ Some (drop 65537 bytes))) }
     ensures bound { IfOk result (λ n. n ≤ length output.new) }
 {
-    let mut input = input_space();
+    // A byte more than is looked at: an input that fills it is too long.
+    let mut input = [0; program::MOST_BYTES + 1];
     let n = streams::read_full(reader, &mut input)?;
     Ok(program::perform(&input[..n], output))
 }
@@ -40,7 +27,7 @@ fn perform<R: Read, W: Write>(reader: &mut R, writer: &mut W) -> io::Result<()>
     ensures writes { OnOk result (IfSome (R.remaining reader.old) (λ bytes. Appends (W.contents writer.old) (W.contents writer.new) (printed bytes))) }
     ensures rest { OnOk result (IfSome (R.remaining reader.old) (λ bytes. R.remaining reader.new ≡ Some (drop 65537 bytes))) }
 {
-    let mut output = output_space();
+    let mut output = [0; program::OUTPUT_BYTES];
     let n = lay_out(reader, &mut output)?;
     writer.write_all(&output[..n])
 }

@@ -7,13 +7,17 @@ use mathlib.Core.Bool.{Bool, true, false, not, cond}
 use mathlib.Core.List.{List, [], map, flat_map, append-nil}
 use lib.ListN.{length, get_or, drop, length-map, drop_of_length-le}
 use lib.Seq.{drop-cons}
-use borrow.Author.Tests.{lt-leb, ltb-false, not-true, not-false}
+use borrow.Author.Tests.{lt-leb, ltb-false, not-false}
 use mir.Syntax.{w32}
 use mir.Val.{Fits as Number}
 use Rattle.rules.specs.Lists.{cut}
 use Rattle.rules.specs.Store.{Board, closed, row_limit, row_words, board_at, board_of, boards_start, store_of, store_length}
 use Rattle.rules.specs.Boards.{is_open}
 use Rattle.rules.specs.Sound.{sizes_in_range}
+use Rattle.std.specs.Prelude.{Result, Ok, Err}
+use Rattle.std.specs.Result.{is_err}
+use Rattle.rules.specs.declared.refusal.Refusal.{Refusal as Reason}
+use Rattle.rules.specs.Refused.{number_of, answer_number}
 use Rattle.rules.specs.Numbers.{first_met}
 use Rattle.rules.specs.Calls.{sizes_read, store_tests, board_test, rows_by, board_rows}
 use Rattle.rules.specs.Views.{Sizes, sizes_in_range-holds}
@@ -25,29 +29,30 @@ use Rattle.rules.specs.laws.Words.{in_range_fits, flat_length, cut_flat, row_wor
 use Rattle.rules.specs.theorems.WordsAndBack.{sound-in_range, accepted_words}
 use Rattle.text.specs.Printing.{board_lines}
 use Rattle.text.specs.Program.{open_lines, boards_from}
-use Rattle.text.specs.Laid.{Laid, Partly, nothing_laid, none_yet, one_more, all_laid}
+use Rattle.text.specs.Laid.{Laid, Partly, nothing_laid, one_more, all_laid}
 use Rattle.program.specs.Parts.{Accepted, store_room}
 
 -- ---- how long a store is
-module _ (p k b : ℕ) (r : Bool) (e : r ≡ sizes_in_range p k b) where
-  pub no_room : not r ≡ true → 0 ≡ store_room p k b
+module _ (p k b : ℕ) where
+  pub no_room : false ≡ sizes_in_range p k b → 0 ≡ store_room p k b
   unfolding store_room
-  no_room f = let g : sizes_in_range p k b ≡ false = sym e ∙ not-true r f in rw g
+  no_room e = rw (sym e)
 
-  module _ (f : not r ≡ false) where
-    in_range : sizes_in_range p k b ≡ true
-    in_range = sym e ∙ not-false r f
-
+  module _ (e : true ≡ sizes_in_range p k b) where
     pub given_sizes : Sizes p k b
-    given_sizes = sizes_in_range-holds p k b in_range
+    given_sizes = sizes_in_range-holds p k b (sym e)
 
     pub some_room : (n : ℕ) → n ≡ store_length p k b → n ≡ store_room p k b
     unfolding store_room
-    some_room n g = rw in_range g
+    some_room n g = rw (sym e) g
 
     pub room_most : (n : ℕ) → n ≡ store_length p k b → n ≤ 15_824
     unfolding store_length
     room_most n g = omega (arith, given_sizes.pages_most, given_sizes.slots_most, given_sizes.boards_most)
+
+-- ---- no refusal has the number of what is done
+pub numbered : (e : Reason) → number_of e ≡ 0 → ⊥
+numbered e = grind arith
 
 -- ---- a board of an accepted store
 module _ (w : List ℕ) (ok : Accepted w) (i : ℕ) (inside : i < length (store_of w).boards) where
@@ -63,28 +68,39 @@ module _ (w : List ℕ) (ok : Accepted w) (i : ℕ) (inside : i < length (store_
       let u = unmet (store_tests w) (omega arith) ok in
       rw (u.0, u.1.0, u.1.1.0, u.1.1.1.0, lt-leb (length (store_of w).boards) i inside)
 
-  opened : (t : ℕ) → t ≡ board_test w i → t ≡ 0 → is_open board ≡ true
-  opened t e z = go (is_open board) (sym tested ∙ sym e ∙ z)
-    where
-      go : (o : Bool) → ◌≡◌ {A = ℕ} (cond (not o) 10 0) 0 → o ≡ true
-      go true q = refl
-      go false q = absurd (omega arith)
+  -- what the board's test answers
+  module _ (r : Result (Unit {0}) Reason) (e : answer_number r ≡ board_test w i) where
+    opened : is_err r ≡ false → is_open board ≡ true
+    opened z = go (is_open board) r (sym tested ∙ sym e) z
+      where
+        go : (o : Bool) (r : Result (Unit {0}) Reason) → cond (not o) 10 0 ≡ answer_number r → is_err r ≡ false → o ≡ true
+        go true r q z = refl
+        go false (Ok x) q z = absurd (omega arith)
+        go false (Err f) q z = absurd (cc)
 
-  shut : (t : ℕ) → t ≡ board_test w i → (t ≡ 0 → ⊥) → is_open board ≡ false
-  shut t e z = go (is_open board) (λ q. z (e ∙ tested ∙ q))
-    where
-      go : (o : Bool) → (◌≡◌ {A = ℕ} (cond (not o) 10 0) 0 → ⊥) → o ≡ false
-      go true q = absurd (q refl)
-      go false q = refl
+    shut : is_err r ≡ true → is_open board ≡ false
+    shut z = go (is_open board) r (sym tested ∙ sym e) z
+      where
+        go : (o : Bool) (r : Result (Unit {0}) Reason) → cond (not o) 10 0 ≡ answer_number r → is_err r ≡ true → o ≡ false
+        go true (Ok x) q z = absurd (cc)
+        go true (Err f) q z = absurd (numbered f (sym q))
+        go false r q z = refl
 
-  pub nothing_shown : (t : ℕ) → t ≡ board_test w i → (t ≡ 0 → ⊥) → (out : List ℕ) (at : ℕ) → at + 913 ≤ length out → Laid out at (open_lines i board) out at
-  unfolding open_lines
-  nothing_shown t e z out at h = rw (shut t e z) (nothing_laid out at (omega arith))
+    pub nothing_shown : is_err r ≡ true → (out : List ℕ) (at : ℕ) → at + 913 ≤ length out → Laid out at (open_lines i board) out at
+    unfolding open_lines
+    nothing_shown z out at h = rw (shut z) (nothing_laid out at (omega arith))
 
-  module _ (t : ℕ) (e : t ≡ board_test w i) (z : t ≡ 0) (rows : List ℕ) (given : rows ≡ board_rows w i) where
+    done : is_err r ≡ false → board_test w i ≡ 0
+    done z = sym e ∙ go r z
+      where
+        go : (r : Result (Unit {0}) Reason) → is_err r ≡ false → answer_number r ≡ 0
+        go (Ok x) z = refl
+        go (Err f) z = absurd (cc)
+
+  module _ (r : Result (Unit {0}) Reason) (e : answer_number r ≡ board_test w i) (z : is_err r ≡ false) (rows : List ℕ) (given : rows ≡ board_rows w i) where
     rows_there : rows ≡ flat_map row_words board.rows
     unfolding board_rows rows_by
-    rows_there = given ∙ rw (sym e ∙ z)
+    rows_there = given ∙ rw (done r e z)
 
     many : length rows ≡ 5 * length board.rows
     many = rw rows_there (flat_length row_words 5 (always row_words-length board.rows))
@@ -104,19 +120,16 @@ module _ (w : List ℕ) (ok : Accepted w) (i : ℕ) (inside : i < length (store_
     pub rows_near : (at r : ℕ) → r ≤ at + 33 + 55 * (length rows / 5) → r ≤ at + 913
     rows_near at r h = omega (arith, fifth, few)
 
-    pub board_shown : (out : List ℕ) (at : ℕ) (after : List ℕ) (r : ℕ) → Laid out at (board_lines i (cut (length rows / 5) 5 rows)) after r → Laid out at (open_lines i board) after r
+    pub board_shown : (out : List ℕ) (at : ℕ) (after : List ℕ) (to : ℕ) → Laid out at (board_lines i (cut (length rows / 5) 5 rows)) after to → Laid out at (open_lines i board) after to
     unfolding open_lines
-    board_shown out at after r l =
+    board_shown out at after to l =
         let parted : cut (length rows / 5) 5 rows ≡ map row_words board.rows =
         rw (fifth, rows_there, ← append-nil (flat_map row_words board.rows)) (cut_flat row_words 5 (always row_words-length board.rows) []) in
-        rw (opened t e z) (rw parted at l)
+        rw (opened r e z) (rw parted at l)
 
 -- ---- boards one after the other: those from i on are left
 abbrev pub boards_left : List ℕ → ℕ → List ℕ
 boards_left w i = boards_from i (drop i (store_of w).boards)
-
-pub boards_none : (w : List ℕ) (out : List ℕ) (at : ℕ) → at + 29216 ≤ length out → Partly out at (boards_left w 0) out at (boards_left w 0)
-boards_none w out at h = none_yet out at (boards_left w 0) (omega arith)
 
 module _ (w : List ℕ) (ok : Accepted w) where
   pub header_long : 16 ≤ length w

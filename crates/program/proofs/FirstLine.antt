@@ -1,11 +1,12 @@
 -- What the input's length and its first line decide. Assumes nothing.
-use Prim.Native.Nat.{ℕ, ◌+◌, ◌-◌, ◌≤◌, ◌<◌}
+use Prim.Native.Nat.{ℕ, ◌+◌, ◌≤◌, ◌<◌}
 use native.Mathlib.Omega.{arith}
 use mathlib.Core.Path.{◌≡◌, refl, sym, ◌∙◌}
 use mathlib.Core.Bool.{Bool, true, false, not, false≢true}
 use mathlib.Core.List.{List, [], ◌∷◌, append-nil}
 use lib.ListN.{length, get_or, take, drop, drop_of_length-le}
 use lib.Seq.{take-nil}
+use Rattle.std.proofs.Math.Nat.{sub-zero}
 use borrow.Author.Tests.{lt-ltb, le-ltb, not-true, not-false}
 use Rattle.rules.specs.Lists.{all_of}
 use Rattle.text.specs.Reading.{newline, parts, lines, all_decimals, in_form, words_in, words_read}
@@ -29,16 +30,16 @@ by_length-printed input = rw (by_first-printed (lines input))
 
 module _ (long bad : List ℕ) (from-sizes : ℕ → ℕ → ℕ → List (List ℕ) → List ℕ) where
   -- the first line is bad, also where there is none; or it gives the sizes
-  line_bad : (input : List ℕ) (e : ℕ) → Until input 0 newline e → in_form 3 (take (e - 0) (drop 0 input)) ≡ false → bad ≡ by_first bad from-sizes (lines input)
+  line_bad : (input : List ℕ) (e : ℕ) → Until input 0 newline e → in_form 3 (take e input) ≡ false → bad ≡ by_first bad from-sizes (lines input)
   unfolding by_first parts
   line_bad [] e u h = refl
-  line_bad (x ∷ xs) e u h = rw (next_line (x ∷ xs) 0 e u (omega arith), h)
+  line_bad (x ∷ xs) e u h = rw (next_line (x ∷ xs) 0 e u (omega arith), sub-zero e, h)
 
-  line-good : (input : List ℕ) (e : ℕ) → Until input 0 newline e → in_form 3 (take (e - 0) (drop 0 input)) ≡ true → (w : List ℕ) → w ≡ words_in (take (e - 0) (drop 0 input))
+  line-good : (input : List ℕ) (e : ℕ) → Until input 0 newline e → in_form 3 (take e input) ≡ true → (w : List ℕ) → w ≡ words_in (take e input)
       → from-sizes (get_or w 0 0) (get_or w 1 0) (get_or w 2 0) (lines (drop (e + 1) input)) ≡ by_first bad from-sizes (lines input)
   unfolding by_first parts in_form all_decimals all_of
-  line-good [] e u h w q = absurd (false≢true (rw (take-nil (e - 0)) at h))
-  line-good (x ∷ xs) e u h w q = rw (next_line (x ∷ xs) 0 e u (omega arith), h, q)
+  line-good [] e u h w q = absurd (false≢true (rw (take-nil e) at h))
+  line-good (x ∷ xs) e u h w q = rw (next_line (x ∷ xs) 0 e u (omega arith), sub-zero e, h, q)
 
   module _ (input : List ℕ) where
     by_long : most_bytes < length input → long ≡ by_length long bad from-sizes input
@@ -50,9 +51,9 @@ module _ (long bad : List ℕ) (from-sizes : ℕ → ℕ → ℕ → List (List 
       unfolding by_length
       by_lines text q = q ∙ rw (le-ltb most_bytes (length input) short)
 
-      module _ (e : ℕ) (u : Until input 0 newline e) (zeros : List ℕ) (three : length zeros ≡ 3) (r : Bool) (sizes : List ℕ) (read : LineRead (take (e - 0) (drop 0 input)) zeros r sizes) where
+      module _ (e : ℕ) (u : Until input 0 newline e) (zeros : List ℕ) (three : length zeros ≡ 3) (r : Bool) (sizes : List ℕ) (read : LineRead (take e input) zeros r sizes) where
         abbrev l : List ℕ
-        l = take (e - 0) (drop 0 input)
+        l = take e input
 
         said : r ≡ in_form 3 l
         said = rw three at read.said
@@ -84,7 +85,7 @@ module _ (input : List ℕ) where
   pub longer_none : most_bytes < length input → (space : List ℕ) → Laid space 0 (left input) space 0
   longer_none h space = none_laid (by_long _ _ _ input h)
 
-  module _ (short : length input ≤ most_bytes) (e : ℕ) (u : Until input 0 newline e) (zeros : List ℕ) (three : length zeros ≡ 3) (r : Bool) (sizes : List ℕ) (read : LineRead (take (e - 0) (drop 0 input)) zeros r sizes) where
+  module _ (short : length input ≤ most_bytes) (e : ℕ) (u : Until input 0 newline e) (zeros : List ℕ) (three : length zeros ≡ 3) (r : Bool) (sizes : List ℕ) (read : LineRead (take e input) zeros r sizes) where
     pub first_bad : not r ≡ true → (out out' : List ℕ) (to : ℕ) → Laid out 0 (bad_line 1) out' to → Laid out 0 (printed input) out' to
     first_bad t out out' to l = rw (by_length-printed input) (same_laid (by_bad _ _ _ input short e u zeros three r sizes read t) l)
 
@@ -94,5 +95,5 @@ module _ (input : List ℕ) where
     pub first_good : not r ≡ false → (out out' : List ℕ) (to : ℕ) → Laid out 0 (start_printed (get_or sizes 0 0) (get_or sizes 1 0) (get_or sizes 2 0) (lines (drop (e + 1) input))) out' to → Laid out 0 (printed input) out' to
     first_good t out out' to l = rw (by_length-printed input) (same_laid (by_good _ _ _ input short e u zeros three r sizes read t) l)
 
-    pub first-good-left : not r ≡ false → (space space' : List ℕ) (n : ℕ) → Laid space 0 (started_left (get_or sizes 0 0) (get_or sizes 1 0) (get_or sizes 2 0) (lines (drop (e + 1) input))) space' n → Laid space 0 (left input) space' n
-    first-good-left t space space' n l = same_laid (by_good _ _ _ input short e u zeros three r sizes read t) l
+    pub first_good_left : not r ≡ false → (space space' : List ℕ) (n : ℕ) → Laid space 0 (started_left (get_or sizes 0 0) (get_or sizes 1 0) (get_or sizes 2 0) (lines (drop (e + 1) input))) space' n → Laid space 0 (left input) space' n
+    first_good_left t space space' n l = same_laid (by_good _ _ _ input short e u zeros three r sizes read t) l

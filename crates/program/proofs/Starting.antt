@@ -1,11 +1,11 @@
 -- What a start in a store of the right length comes to, and the first line. Assumes nothing.
-use Prim.Native.Nat.{ℕ, ◌+◌, ◌-◌, ◌≤◌}
+use Prim.Native.Nat.{ℕ, ◌+◌, ◌≤◌}
 use native.Mathlib.Omega.{arith}
 use mathlib.Core.Path.{◌≡◌, refl, sym, ◌∙◌, ap}
 use mathlib.Core.Bool.{Bool, true, false}
 use mathlib.Core.List.{List, map}
 use lib.Dec.{eqb}
-use lib.ListN.{length, take, drop}
+use lib.ListN.{length, take}
 use lib.Seq.{length-take-le}
 use borrow.Rule.Slice.PartMut.{put_mid}
 use borrow.Author.Tests.{eq-eqb}
@@ -63,9 +63,9 @@ module _ (p k b : ℕ) (w : List ℕ) (long : length w ≡ store_room p k b) (nu
     unfolding start_printed
     start_refused h = rw (refused h) (rw (out_of_range_start (refused h)).0 at told)
 
-    pub start-done : number ≡ 0 → (out' : List ℕ) (end : ℕ) → Laid mid to (steps_printed (store_of w') later) out' end → Laid out 0 (start_printed p k b later) out' end
+    pub start_done : number ≡ 0 → (out' : List ℕ) (end : ℕ) → Laid mid to (steps_printed (store_of w') later) out' end → Laid out 0 (start_printed p k b later) out' end
     unfolding start_printed
-    start-done z out' end l = rw (begun z) (both_laid (rw z at told) (rw (fresh_there z) at l))
+    start_done z out' end l = rw (begun z) (both_laid (rw z at told) (rw (fresh_there z) at l))
 
   pub start_accepted : number ≡ 0 → Accepted w'
   start_accepted z = let e = begun z in rw (in_range-start e).1 (words_accepted (fresh p k b) (fresh-sound p k b e))
@@ -79,9 +79,8 @@ module _ (p k b : ℕ) (w : List ℕ) (long : length w ≡ store_room p k b) (nu
   store_ran later z v q = rw (begun z) (rw (fresh_there z) at q)
 
 -- a store at the front of a lent space
-pub left_in_space : (space : List ℕ) (n : ℕ) → n ≤ 15_824 → 15_824 ≤ length space → (part left : List ℕ) → part ≡ left → length part ≡ length (take (n - 0) (drop 0 space)) → Laid space 0 left (put_mid 0 (n - 0) space part) n
+pub left_in_space : (space : List ℕ) (n : ℕ) → n ≤ 15_824 → 15_824 ≤ length space → (part left : List ℕ) → part ≡ left → length part ≡ length (take n space) → Laid space 0 left (put_mid 0 n space part) n
 left_in_space space n most room part left e l =
-    let here : n - 0 ≡ n = omega arith in
     let there : 0 + n ≡ n = omega arith in
-    let m : n ≡ length left = sym (length-take-le n space (omega arith)) ∙ sym (rw here at l) ∙ ap length e in
-    record { room = omega arith; written = rw (e, ← m, here, there); ends = omega arith }
+    let m : n ≡ length left = sym (length-take-le n space (omega arith)) ∙ sym l ∙ ap length e in
+    record { room = omega arith; written = rw (e, ← m, there); ends = omega arith }

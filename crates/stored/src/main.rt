@@ -7,40 +7,19 @@ ghost use Rattle.text.specs.Printing.{line};
 ghost use Rattle.text.specs.Program.{printed};
 ghost use Rattle.program.specs.Left.{left};
 
+use program::Performed;
 use std::io::{ErrorKind, Write};
 use std::rt::Files;
 use std::{fs, io, str};
-
-// A byte more than is looked at: an input that fills it is too long.
-fn input_space() -> [u8; 65537]
-    ensures { 65537 ≡ length result }
-{
-    [0; 65537]
-}
-
-// Room for the largest store.
-fn store_space() -> [u32; 15824]
-    ensures { 15824 ≡ length result }
-{
-    [0; 15824]
-}
-
-// Room for the longest output, and so for the words of the largest store.
-fn output_space() -> [u8; 209446]
-    ensures { 209446 ≡ length result }
-{
-    [0; 209446]
-}
 
 // Writes what an input prints, then the words of its store in a line.
 fn perform<W: Write>(input: &[u8], writer: &mut W) -> io::Result<()>
     ensures { OnOk result (Appends (W.contents writer.old) (W.contents writer.new) (printed input.now ++ line (left input.now))) }
 {
-    let mut space = store_space();
-    let mut out = output_space();
-    let done = program::perform_in(input, &mut space, &mut out);
-    let bytes = done.bytes;
-    let words = done.words;
+    let mut space = [0; program::STORE_WORDS];
+    // Room for the words of the store too.
+    let mut out = [0; program::OUTPUT_BYTES];
+    let Performed { bytes, words } = program::perform_in(input, &mut space, &mut out);
     writer.write_all(&out[..bytes])?;
     let e = text::put_line(&space[..words], &mut out, 0);
     writer.write_all(&out[..e])
@@ -51,7 +30,7 @@ fn name(i: u32) -> [u8; 2]
     requires { i ≤ 99 }
     ensures { result ≡ (48 + i / 10) ∷ (48 + i % 10) ∷ [] }
 {
-    [48 + (i / 10) as u8, 48 + (i % 10) as u8]
+    [b'0' + (i / 10) as u8, b'0' + (i % 10) as u8]
 }
 
 // Performs file i, and answers whether there is one.
@@ -69,7 +48,8 @@ fn perform_file(rt: &(impl Files + Print), i: u32) -> io::Result<bool>
     writer.write_all(b"input ")?;
     writer.write_all(&name)?;
     writer.write_all(b"\n")?;
-    let mut input = input_space();
+    // A byte more than is looked at: an input that fills it is too long.
+    let mut input = [0; program::MOST_BYTES + 1];
     let n = streams::read_full(&mut file, &mut input)?;
     perform(&input[..n], &mut writer)?;
     Ok(true)
