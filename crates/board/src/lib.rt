@@ -1,7 +1,7 @@
 // Boards: one board's own part of the store, 86 words: its window, whether it is open, how many rows it has, and sixteen rows.
 #![tactic(auto)]
 
-ghost use Rattle.std.specs.Prelude.{◌≡◌, ◌≤◌, ◌<◌, [], length, set};
+ghost use Rattle.std.specs.Prelude.{◌≡◌, ◌+◌, ◌*◌, ◌≤◌, ◌<◌, [], length, set};
 ghost use Rattle.rules.specs.Lists.{without};
 ghost use Rattle.rules.specs.Store.{closed, row_limit, board_words, board_of};
 ghost use Rattle.rules.specs.Live.{row_inserted, row_removed};
@@ -11,21 +11,28 @@ ghost use Rattle.board.specs.Rows as spec;
 
 mod view;
 
-pub use view::Board;
-
 use rules::part::Part;
 use rules::{Row, Train, Window};
+pub use view::Board;
 
 // What writes a board takes its words and its `requires`: a struct over `&mut` would need a clause for each field at every method in its place.
 
 // ---- rows written
+
+// The word with which row i starts; with the count for i, where they end.
+fn row_start(i: usize) -> usize
+    requires { i ≤ row_limit }
+    ensures { result ≡ 6 + 5 * i }
+{
+    6 + 5 * i
+}
 
 // Another row in place i.
 fn put_row(b: &mut [u32], i: usize, r: Row)
     requires { spec.BoardWords b.old × (i < length (board_of b.old).rows) }
     ensures { spec.Became b.old (set (board_of b.old).rows i r) b.new }
 {
-    let a = 6 + 5 * i;
+    let a = row_start(i);
     r.write(&mut b[a..a + 5]);
 }
 
@@ -35,8 +42,8 @@ fn insert_at(b: &mut [u32], i: usize, r: Row)
     ensures { spec.Became b.old (spec.put (board_of b.old).rows i r) b.new }
 {
     let n = Board { words: b }.row_count();
-    let a = 6 + 5 * i;
-    b.copy_within(a..6 + 5 * n, a + 5);
+    let a = row_start(i);
+    b.copy_within(a..row_start(n), a + 5);
     r.write(&mut b[a..a + 5]);
     b[5] = (n + 1) as u32;
 }
@@ -47,8 +54,8 @@ fn remove_at(b: &mut [u32], i: usize)
     ensures { spec.Became b.old (without (board_of b.old).rows i) b.new }
 {
     let n = Board { words: b }.row_count() - 1;
-    let a = 6 + 5 * i;
-    let last = 6 + 5 * n;
+    let a = row_start(i);
+    let last = row_start(n);
     b.copy_within(a + 5..last + 5, a);
     b[last..last + 5].fill(0);
     b[5] = n as u32;
@@ -60,8 +67,8 @@ pub fn insert(b: &mut [u32], r: Row)
     requires { spec.BoardWords b.old × (length (row_inserted r (board_of b.old).rows) ≤ row_limit) }
     ensures { b.new ≡ board_words (rules.with_rows (row_inserted r (board_of b.old).rows) (board_of b.old)) }
 {
-    let place = Board { words: b }.place_of(r.train);
-    match place {
+    let board = Board { words: b };
+    match board.place_of(r.train) {
         Ok(i) => put_row(b, i, r),
         Err(i) => insert_at(b, i, r),
     }
@@ -73,8 +80,8 @@ pub fn remove(b: &mut [u32], t: Train)
     requires { spec.BoardWords b.old × RowsAscend (board_of b.old).rows }
     ensures { b.new ≡ board_words (rules.with_rows (row_removed t (board_of b.old).rows) (board_of b.old)) }
 {
-    let place = Board { words: b }.place_of(t);
-    if let Ok(i) = place {
+    let board = Board { words: b };
+    if let Ok(i) = board.place_of(t) {
         remove_at(b, i);
     }
 }
@@ -120,12 +127,13 @@ pub fn tell(b: &mut [u32], r: Row)
 }
 
 // After a withdrawal: on an open board the train has no row.
+#[tactic(auto, using(crate::proofs::Upkeep::open_untold, crate::proofs::Upkeep::closed_untold))]
 pub fn untell(b: &mut [u32], t: Train)
     requires { spec.BoardWords b.old × RowsAscend (board_of b.old).rows }
     ensures { b.new ≡ board_words (rules.untold t (board_of b.old)) }
 {
-    let is_open = Board { words: b }.is_open();
-    if is_open {
+    let board = Board { words: b };
+    if board.is_open() {
         remove(b, t);
     }
 }

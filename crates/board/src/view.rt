@@ -8,12 +8,13 @@ ghost use Rattle.rules.specs.laws.Rows.{RowsAscend};
 ghost use Rattle.rules.specs.laws.Parts.{no_row};
 ghost use Rattle.board.specs.Rows as spec;
 
+use crate::row_start;
 use rules::part::Part;
 use rules::{Row, Train, Window};
 use std::cmp::Ordering;
 
 // Its fields say what spec.BoardWords says, so whoever names a Board has shown that once.
-#[derive(Clone, Copy)]
+#[derive(Clone, Copy, Debug, PartialEq, Eq)]
 pub struct Board<'a> {
     pub words: &'a [u32],
     ghost long: { length words.now ≡ 86 },
@@ -48,7 +49,7 @@ impl<'a> Board<'a> {
         requires { i < length (board_of self.now.words.now).rows }
         ensures { result ≡ get_or (board_of self.now.words.now).rows i no_row }
     {
-        Row::read(&self.words[6 + 5 * i..])
+        Row::read(&self.words[row_start(i)..])
     }
 
     // Where the train's row stands, or, where it has none, where it would come in ascending order.
