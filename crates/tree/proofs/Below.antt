@@ -1,7 +1,7 @@
 -- A page once its child has been written, and the way down to it. Assumes nothing.
-use Prim.Native.Nat.{ℕ, zero, suc, ◌-◌, ◌≤◌, ◌<◌, min}
+use Prim.Native.Nat.{ℕ, zero, suc, ◌-◌, ◌≤◌, ◌<◌}
 use native.Mathlib.Omega.{arith}
-use mathlib.Core.Path.{◌≡◌, refl, sym, ap, ◌∙◌}
+use mathlib.Core.Path.{◌≡◌, refl, ap, ◌∙◌}
 use mathlib.Core.List.{List, [], ◌∷◌, ◌++◌}
 use lib.Dec.{leb}
 use lib.ListN.{length, get_or, set, take, length-set, get_or-eq_default}
@@ -23,7 +23,7 @@ use Rattle.page.specs.Laws.{laid_contents, laid_set}
 use Rattle.split.specs.Split.{Chosen}
 use Rattle.std.specs.Prelude.{Option, Some, None, IfSome, unwrap_or}
 use Rattle.tree.specs.Putting.{Ready, Laid, Wrote, Put, answer, result, settled_in, renewed_in, picked, child_in, with_entry}
-use Rattle.tree.specs.Laws.{laid_few, laid_count, laid_at, laid_of, read-contents, child_proper, page-put, wrote_then, wrote_pages}
+use Rattle.tree.specs.Laws.{laid_few, laid_count, laid_used, laid_at, laid_of, read-contents, child_proper, page-put, wrote_then, wrote_pages}
 
 -- ---- the place picked
 -- it is read and set as the one that the rules choose
@@ -62,14 +62,8 @@ module _ (g : Page) (l : Laid g) (new : Box) where
   pub pick_none : g.count ≡ 0 → None ≡ picked new (contents g).places
   pick_none e = picks_none new (contents g).places (omega (arith, laid_count g l))
 
-  pub count_most : g.count ≤ 8
-  count_most = omega (arith, laid_count g l, laid_few g l)
-
   pub pick_one : (r : ℕ) → (g.count ≡ 0 → ⊥) → Chosen new (take g.count g.places) g.count r → Some r ≡ picked new (contents g).places
-  unfolding contents
-  pick_one r n t =
-      let m : min 8 g.count ≡ g.count = omega (arith, count_most) in
-      rw (t.chosen ∙ ap (λ k. choose its_box new (take k g.places)) (sym m)) (picks new (contents g).places (omega (arith, laid_count g l)))
+  pick_one r n t = rw (t.chosen, laid_used g l) (picks new (contents g).places (omega (arith, laid_count g l)))
 
 -- the child page there
 pub one_child : (g : Page) → Laid g → (i : ℕ) → child_of (get_or g.places i no_place) ≡ child_in (contents g).places (Some i)

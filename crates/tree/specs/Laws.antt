@@ -1,5 +1,5 @@
 -- Laws of putting in: what is read from words that are ready, and what writing pages leaves.
-use Rattle.std.specs.Prelude.{ℕ, ◌+◌, ◌*◌, ◌≤◌, ◌<◌, ◌≡◌, List, [], ◌∷◌, ◌++◌, length, get_or, set, take, drop}
+use Rattle.std.specs.Prelude.{ℕ, ◌+◌, ◌*◌, ◌≤◌, ◌<◌, ◌≡◌, List, [], ◌∷◌, ◌++◌, length, get_or, set, take, drop, min}
 use Rattle.std.proofs.Common.{arith, add-one, ◌∙◌, length-set, take-suc}
 use Rattle.std.proofs.Math.Path.{refl, sym, ap}
 use Rattle.std.proofs.Math.ListN.{length-take}
@@ -34,6 +34,14 @@ module _ (g : Page) (l : Laid g) where
   pub laid_count : g.count ≡ length (contents g).places
   unfolding laid_page
   laid_count = ap (λ g. g.count) l.laid
+
+  pub laid_most : g.count ≤ 8
+  laid_most = omega (arith, laid_count, laid_few)
+
+  -- its used places
+  pub laid_used : take g.count g.places ≡ (contents g).places
+  unfolding contents
+  laid_used = let n : min 8 g.count ≡ g.count = omega (arith, laid_most) in rw n
 
   pub laid_length : length g.places ≡ 8
   laid_length = ap (λ g. length g.places) l.laid ∙ laid_places (contents g) laid_few

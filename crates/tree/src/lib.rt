@@ -111,7 +111,7 @@ pub fn child_place(store: &[u32], p: usize, at: PageNo) -> Entry
 }
 
 // The place of g that takes the new box best; a page with no places has none.
-#[tactic(auto, using(crate::proofs::Below::count_most, crate::proofs::Below::pick_none, crate::proofs::Below::pick_one))]
+#[tactic(auto, using(crate::specs::Laws::laid_most, crate::proofs::Below::pick_none, crate::proofs::Below::pick_one))]
 fn pick(g: Page, new: Box) -> Option<usize>
     requires { Laid g }
     ensures { result ≡ picked new (contents g).places }

@@ -1,16 +1,17 @@
 -- Taking out what is thin: the leaf, a page once its child has been trimmed, and the way down to the leaf. Assumes nothing.
 use Prim.Native.Nat.{ℕ, zero, suc, ◌+◌, ◌*◌, ◌-◌, ◌≤◌, ◌<◌}
 use native.Mathlib.Omega.{arith}
-use mathlib.Core.Path.{◌≡◌, refl, subst, ◌∙◌, ap, ap₂}
-use mathlib.Core.Bool.{true}
-use mathlib.Core.List.{List, [], ◌∷◌, ◌++◌}
+use mathlib.Core.Path.{◌≡◌, refl, sym, subst, ◌∙◌, ap, ap₂}
+use mathlib.Core.Bool.{Bool}
+use mathlib.Core.List.{List, [], ◌∷◌, ◌++◌, map, map-append, map-map}
+use Rattle.std.specs.Prelude.{Option, Some, IsSome}
 use lib.Dec.{ltb}
-use lib.ListN.{length, get_or, set, length-set}
+use lib.ListN.{length, get_or, set, take, length-set, length-map, length-append}
 use borrow.Author.Tests.{ltb-true, ltb-false}
 use Rattle.rules.specs.declared.Stamp.{Stamp}
 use Rattle.rules.specs.declared.PageNo.{PageNo}
 use Rattle.rules.specs.declared.Entry.{Entry}
-use Rattle.rules.specs.Lists.{keep, without}
+use Rattle.rules.specs.Lists.{keep, first, without}
 use Rattle.rules.specs.Store.{Page as Contents, free_page, no_place, child_of, page_at, put_page, store_of}
 use Rattle.rules.specs.Memo.{is_latest}
 use Rattle.rules.specs.Tree.{with_places, child_place}
@@ -23,15 +24,13 @@ use Rattle.page.specs.declared.Page.{Page}
 use Rattle.page.specs.Struct.{contents, laid_page, struct_at, with_struct, with_place, removed}
 use Rattle.page.specs.Laws.{laid_set, laid_removed}
 use Rattle.tree.specs.Putting.{ProperPlaces, Ready, Laid, Wrote}
-use Rattle.tree.specs.Laws.{laid_few, laid_count, laid_at, room, page_few, page_proper, child_proper, read_laid, read-contents, page-put, wrote_then, wrote_pages}
-use Rattle.trim.specs.declared.Orphans.{Orphans}
-use Rattle.trim.specs.Trimming.{Readable, page_kept, way, LeafBelow, held_by, wait_at, Added, Placeable, Waits, trimmed_in, so_far, child_freed, child_renewed, trimmed_place, TrimmedTo}
+use Rattle.tree.specs.Laws.{laid_few, laid_count, laid_used, laid_at, room, page_few, page_proper, child_proper, read_laid, read-contents, page-put, wrote_then, wrote_pages}
+use Rattle.trim.specs.declared.Orphan.{Orphan}
+use Rattle.trim.proofs.Ways.{place_found, some_found}
+use Rattle.trim.specs.Trimming.{Readable, page_kept, leads_to, way, LeafBelow, waiting, held_by, at_level, wait_at, Placeable, Waits, trimmed_in, so_far, child_freed, child_renewed, trimmed_place, TrimmedTo}
 
 -- ---- the leaf
-pub read_whole : (p : ℕ) (w : List ℕ) → Readable p w → Readable (length (store_of w).pages) w
-read_whole p w h = rw h.ready.counted h
-
-pub leaf_trimmed : (p : ℕ) (w : List ℕ) → Readable p w → (at : PageNo) (mark : Stamp) (g : Page) (w' : List ℕ) → g ≡ laid_page (page_kept true (store_of w) at)
+pub leaf_trimmed : (p : ℕ) (w : List ℕ) → Readable p w → (at : PageNo) (mark : Stamp) (g : Page) (w' : List ℕ) → g ≡ laid_page (page_kept (is_latest (store_of w).memo) (store_of w) at)
     → w' ≡ with_struct w p at (record { kind = 1; count = g.count; mark = mark; places = g.places }) → Wrote p w (trimmed_in w mark 0 at at).pages w'
 unfolding trimmed_below laid_page
 leaf_trimmed p w h at mark g w' e q =
@@ -51,9 +50,6 @@ all_without (x ∷ xs) (suc i) a = more (head_of a) (all_without xs i (tail_of a
 module _ (p : ℕ) (w : List ℕ) (h : Ready p w) (at : PageNo) (g : Page) (l : Laid g) (i : ℕ) (used : i < g.count) (c : PageNo) where
   inside : i < length (contents g).places
   inside = omega (arith, laid_count g l)
-
-  pub count_most : g.count ≤ 8
-  count_most = omega (arith, laid_count g l, laid_few g l)
 
   module _ (x : Page) (w₁ : List ℕ) (ex : x ≡ laid_page free_page) (e₁ : w₁ ≡ with_struct w p c x) where
     child_gone : Wrote p w (put_page (store_of w).pages c free_page) w₁
@@ -79,7 +75,7 @@ module _ (p : ℕ) (w : List ℕ) (h : Ready p w) (at : PageNo) (g : Page) (l : 
       rw (e, laid) (page-put p w h at (with_places (contents g) es) (rw length-set (laid_few g l)) (all_set l.proper i (child_proper p w h c)))
 
 -- ---- what waits from there
-module _ (p : ℕ) (w : List ℕ) (h : Ready p w) (level : ℕ) (at : PageNo) (g : Page) (i : ℕ) (c : PageNo) (o : Orphans) (least : 1 ≤ level) (waits : Waits (level - 1) o)
+module _ (p : ℕ) (w : List ℕ) (h : Ready p w) (level : ℕ) (at : PageNo) (g : Page) (i : ℕ) (c : PageNo) (os : List Orphan) (least : 1 ≤ level) (waits : Waits (level - 1) os)
     (left : Page) (read : left ≡ struct_at w p c) where
   here : contents left ≡ page_at (store_of w).pages c
   here = read-contents p w h c left read
@@ -87,81 +83,97 @@ module _ (p : ℕ) (w : List ℕ) (h : Ready p w) (level : ℕ) (at : PageNo) (g
   many : left.count ≡ length (page_at (store_of w).pages c).places
   many = laid_count left (read_laid p w h c left read) ∙ ap (λ (g : Contents). length g.places) here
 
-  pub room_for : level ≤ 4 → left.count < 4 → o.count + left.count ≤ 12
-  room_for k m = omega (arith, waits.few)
+  -- its used places, which wait if it is freed
+  abbrev news : List Orphan
+  news = map (at_level level) (take left.count left.places)
 
-  still : All (Placeable level) (held_by o)
+  news_length : length news ≡ left.count
+  news_length = length-map (take left.count left.places) (at_level level) ∙ omega (arith, ap (length {A = Entry}) (laid_used left (read_laid p w h c left read)), laid_count left (read_laid p w h c left read))
+
+  still : All (λ o. Placeable level (waiting o)) os
   still = all_map waits.placeable λ z k. record { level_most = omega (arith, k.level_most); proper = k.proper }
 
-  pub trimmed_out : (w' : List ℕ) (r : Orphans) → left.count < 4 → Wrote p w (child_freed (store_of w).pages at (contents g) i c) w' → Added o level (contents left).places r
-      → TrimmedTo p w level (trimmed_place level at (contents g) i c (so_far w o)) w' r
+  pub trimmed_out : (w' : List ℕ) (r : List Orphan) → left.count < 4 → Wrote p w (child_freed (store_of w).pages at (contents g) i c) w' → r ≡ os ++ news
+      → TrimmedTo p w level (trimmed_place level at (contents g) i c (so_far w os)) w' r
   trimmed_out w' r m t a =
       let es = (page_at (store_of w).pages c).places in
-      let held : held_by r ≡ held_by o ++ wait_at level es = a.held ∙ ap (λ (g : Contents). held_by o ++ wait_at level g.places) here in
-      let news : All (Placeable level) (wait_at level es) = all_mapped _ (all_map (page_proper p w h c) λ e k. record { level_most = omega arith; proper = k }) in
+      let used : take left.count left.places ≡ es = laid_used left (read_laid p w h c left read) ∙ ap (λ (g : Contents). g.places) here in
+      let held : held_by r ≡ held_by os ++ wait_at level es = rw (a, map-append waiting os news, used, map-map) refl in
+      let proper : All (λ o. Placeable level (waiting o)) news = rw used (all_mapped _ (all_map (page_proper p w h c) λ e k. record { level_most = omega arith; proper = k })) in
       either (λ z. TrimmedTo p w level z w' r) (ltb (length es) 4)
-      (λ y. record { pages = t; orphans = held; waits = record { few = omega (arith, a.counted, waits.few, ap (λ (g : Contents). length g.places) here, many); placeable = rw held (all_append still news) } })
+      (λ y. record { pages = t; orphans = held; waits = record { few = omega (arith, ap (length {A = Orphan}) a, length-append os news, news_length, waits.few); placeable = rw a (all_append still proper) } })
       (λ y. absurd (omega (arith, many, ltb-false (length es) 4 y)))
 
   pub trimmed_stay : (w' : List ℕ) → 4 ≤ left.count → Wrote p w (child_renewed (store_of w).pages at (contents g) i c) w'
-      → TrimmedTo p w level (trimmed_place level at (contents g) i c (so_far w o)) w' o
+      → TrimmedTo p w level (trimmed_place level at (contents g) i c (so_far w os)) w' os
   trimmed_stay w' m t =
       let es = (page_at (store_of w).pages c).places in
-      either (λ z. TrimmedTo p w level z w' o) (ltb (length es) 4)
+      either (λ z. TrimmedTo p w level z w' os) (ltb (length es) 4)
       (λ y. absurd (omega (arith, many, ltb-true (length es) 4 y)))
       (λ y. record { pages = t; orphans = refl; waits = record { few = omega (arith, waits.few); placeable = still } })
 
 -- ---- down to the leaf
-pub at_leaf : (p : ℕ) (w : List ℕ) (depth : ℕ) (at q : PageNo) (mark : Stamp) (w' : List ℕ) (o : Orphans) → depth ≡ 0 → Wrote p w (trimmed_in w mark 0 at at).pages w' → o.count ≡ 0
-    → TrimmedTo p w depth (trimmed_in w mark depth at q) w' o
-unfolding trimmed_below held_by
-at_leaf p w depth at q mark w' o z t n =
-    rw z (record { pages = t; orphans = rw n; waits = record { few = omega arith; placeable = rw n none } })
+pub at_leaf : (p : ℕ) (w : List ℕ) (depth : ℕ) (at q : PageNo) (mark : Stamp) (w' : List ℕ) (os : List Orphan) → depth ≡ 0 → Wrote p w (trimmed_in w mark 0 at at).pages w' → os ≡ []
+    → TrimmedTo p w depth (trimmed_in w mark depth at q) w' os
+unfolding trimmed_below
+at_leaf p w depth at q mark w' os z t n =
+    rw z (record { pages = t; orphans = rw n; waits = record { few = rw n (omega arith); placeable = rw n none } })
 
-module _ (p : ℕ) (w : List ℕ) (h : Readable p w) (depth : ℕ) (at q : PageNo) (deep : depth ≡ 0 → ⊥) (g : Page) (read : g ≡ struct_at w p at) (i : ℕ) (first : i ≡ way (store_of w).pages depth q (contents g).places) where
+module _ (p : ℕ) (w : List ℕ) (h : Readable p w) (depth : ℕ) (at q : PageNo) (deep : depth ≡ 0 → ⊥) (below : LeafBelow w depth at q) (g : Page) (read : g ≡ struct_at w p at) where
   abbrev ps : List Contents
   ps = (store_of w).pages
+
+  abbrev es : List Entry
+  es = (page_at ps at).places
+
+  abbrev leads : Entry → Bool
+  leads e = leads_to ps depth q (child_of e)
 
   laid : Laid g
   laid = read_laid p w h.ready at g read
 
+  abbrev its : (g : Contents) → List Entry
+  its g = g.places
+
+  used_here : (contents g).places ≡ es
+  used_here = ap its (read-contents p w h.ready at g read)
+
   -- the place that the path goes down by
-  by_path : i ≡ way ps depth q (page_at ps at).places
-  by_path = first ∙ ap (λ (g : Contents). way ps depth q g.places) (read-contents p w h.ready at g read)
-
-  leaf_next : (d j : ℕ) → j ≡ way ps (suc d) q (page_at ps at).places → LeafBelow w (suc d) at q
-      → (j < length (page_at ps at).places) × LeafBelow w d (child_of (get_or (page_at ps at).places j no_place)) q
+  leaf_next : (d : ℕ) → LeafBelow w (suc d) at q
+      → let i = first (λ e. leads_to ps (suc d) q (child_of e)) es in (i < length es) × LeafBelow w d (child_of (get_or es i no_place)) q
   unfolding path_to
-  leaf_next d j e f = rw e (f.path.0, record { path = f.path.1 })
+  leaf_next d f = (f.path.0, record { path = f.path.1 })
 
-  next : LeafBelow w depth at q → (i < length (page_at ps at).places) × LeafBelow w (depth - 1) (child_of (get_or (page_at ps at).places i no_place)) q
-  next f =
-      let s : depth ≡ suc (depth - 1) = omega arith in
-      leaf_next (depth - 1) i (by_path ∙ ap (λ d. way ps d q (page_at ps at).places) s) (rw s at f)
+  next : (first leads es < length es) × LeafBelow w (depth - 1) (child_of (get_or es (first leads es) no_place)) q
+  next = let s : depth ≡ suc (depth - 1) = omega arith in rw (← s) at (leaf_next (depth - 1) (rw s at below))
 
-  pub way-used : LeafBelow w depth at q → i < g.count
-  way-used f = omega (arith, (next f).0, laid_count g laid, ap (λ (g : Contents). length g.places) (read-contents p w h.ready at g read))
+  pub way_some : (o : Option ℕ) → o ≡ way ps depth q (contents g).places → IsSome o
+  way_some o e = rw (e, used_here) (some_found leads es next.0)
 
-  module _ (x : Entry) (found : x ≡ get_or g.places i no_place) where
-    there : x ≡ get_or (page_at ps at).places i no_place
-    there =
-        found
-        ∙ laid_at g laid i
-        ∙ ap (λ (g : Contents). get_or g.places i no_place) (read-contents p w h.ready at g read)
+  module _ (o : Option ℕ) (i : ℕ) (found : o ≡ way ps depth q (contents g).places) (is : o ≡ Some i) where
+    by_path : i ≡ first leads es
+    by_path = place_found leads es i (rw used_here at (sym found ∙ is))
 
-    pub leaf_further : LeafBelow w depth at q → LeafBelow w (depth - 1) (child_of x) q
-    leaf_further f = rw there (next f).1
+    pub way_used : i < g.count
+    way_used = omega (arith, by_path, next.0, laid_count g laid, ap (length {A = Entry}) used_here)
 
-    one_up : (mark : Stamp) (d : ℕ) → depth ≡ suc d → trimmed_in w mark depth at q ≡ trimmed_place depth at (page_at ps at) i (child_of x) (trimmed_in w mark d (child_of x) q)
-    unfolding trimmed_below path_to
-    one_up mark d s = rw (there, by_path, s)
+    module _ (x : Entry) (at_place : x ≡ get_or g.places i no_place) where
+      there : x ≡ get_or es (first leads es) no_place
+      there = at_place ∙ laid_at g laid i ∙ rw (used_here, by_path) refl
 
-    pub trimmed_deeper : (mark : Stamp) (w₁ : List ℕ) (o₁ : Orphans) (w₂ : List ℕ) (o₂ : Orphans) → TrimmedTo p w (depth - 1) (trimmed_in w mark (depth - 1) (child_of x) q) w₁ o₁
-        → TrimmedTo p w₁ depth (trimmed_place depth at (contents g) i (child_of x) (so_far w₁ o₁)) w₂ o₂ → TrimmedTo p w depth (trimmed_in w mark depth at q) w₂ o₂
-    trimmed_deeper mark w₁ o₁ w₂ o₂ one two =
-        let t = trimmed_in w mark (depth - 1) (child_of x) q in
-        let came : so_far w₁ o₁ ≡ t = λ j. record { pages = wrote_pages one.pages j; orphans = one.orphans j } in
-        let both : TrimmedTo p w₁ depth (trimmed_place depth at (page_at ps at) i (child_of x) t) w₂ o₂ =
-        subst (λ r. TrimmedTo p w₁ depth (trimmed_place depth at (page_at ps at) i (child_of x) r) w₂ o₂) came
-        (subst (λ g. TrimmedTo p w₁ depth (trimmed_place depth at g i (child_of x) (so_far w₁ o₁)) w₂ o₂) (read-contents p w h.ready at g read) two) in
-        rw (one_up mark (depth - 1) (omega arith)) (record { pages = wrote_then one.pages both.pages; orphans = both.orphans; waits = both.waits })
+      pub leaf_further : LeafBelow w (depth - 1) (child_of x) q
+      leaf_further = rw there next.1
+
+      one_up : (mark : Stamp) (d : ℕ) → depth ≡ suc d → trimmed_in w mark depth at q ≡ trimmed_place depth at (page_at ps at) i (child_of x) (trimmed_in w mark d (child_of x) q)
+      unfolding trimmed_below path_to
+      one_up mark d s = rw (there, by_path, s)
+
+      pub trimmed_deeper : (mark : Stamp) (w₁ : List ℕ) (o₁ : List Orphan) (w₂ : List ℕ) (o₂ : List Orphan) → TrimmedTo p w (depth - 1) (trimmed_in w mark (depth - 1) (child_of x) q) w₁ o₁
+          → TrimmedTo p w₁ depth (trimmed_place depth at (contents g) i (child_of x) (so_far w₁ o₁)) w₂ o₂ → TrimmedTo p w depth (trimmed_in w mark depth at q) w₂ o₂
+      trimmed_deeper mark w₁ o₁ w₂ o₂ one two =
+          let t = trimmed_in w mark (depth - 1) (child_of x) q in
+          let came : so_far w₁ o₁ ≡ t = λ j. record { pages = wrote_pages one.pages j; orphans = one.orphans j } in
+          let both : TrimmedTo p w₁ depth (trimmed_place depth at (page_at ps at) i (child_of x) t) w₂ o₂ =
+          subst (λ r. TrimmedTo p w₁ depth (trimmed_place depth at (page_at ps at) i (child_of x) r) w₂ o₂) came
+          (subst (λ g. TrimmedTo p w₁ depth (trimmed_place depth at g i (child_of x) (so_far w₁ o₁)) w₂ o₂) (read-contents p w h.ready at g read) two) in
+          rw (one_up mark (depth - 1) (omega arith)) (record { pages = wrote_then one.pages both.pages; orphans = both.orphans; waits = both.waits })

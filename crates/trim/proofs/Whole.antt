@@ -21,7 +21,7 @@ use Rattle.page.specs.declared.Page.{Page}
 use Rattle.page.specs.Struct.{contents, laid_page, struct_at, with_struct}
 use Rattle.tree.specs.Putting.{Ready, Wrote, Grown}
 use Rattle.tree.specs.Laws.{laid_count, laid_at, room, levels_read, root_read, read_laid, read-contents, page-put, grown_from, grown_then, grown_tree, wrote_grown, grown_same}
-use Rattle.trim.specs.declared.Orphans.{Orphans}
+use Rattle.trim.specs.declared.Orphan.{Orphan}
 use Rattle.trim.specs.Trimming.{Readable, held_by, Waits, LeafBelow, trimmed_in, TrimmedTo, root_lowered, Cleanable}
 use Rattle.trim.proofs.Back.{back_levels}
 
@@ -97,10 +97,7 @@ module _ (w : List ℕ) (q : PageNo) (h : Cleanable q w) (p levels : ℕ) (count
     pub leaf_there : LeafBelow w (levels - 1) root q
     leaf_there = rw (levels_are, root_is) h.leaf
 
-    module _ (mark : Stamp) (w₁ : List ℕ) (o : Orphans) (t : TrimmedTo p w (levels - 1) (trimmed_in w mark (levels - 1) root q) w₁ o) where
-      pub trimmed_ready : Ready (length (store_of w₁).pages) w₁
-      trimmed_ready = rw t.pages.ready.counted t.pages.ready
-
+    module _ (mark : Stamp) (w₁ : List ℕ) (o : List Orphan) (t : TrimmedTo p w (levels - 1) (trimmed_in w mark (levels - 1) root q) w₁ o) where
       levels_kept : (store_of w₁).levels ≡ (store_of w).levels
       levels_kept = ap (λ s. s.levels) t.pages.stored
 
@@ -110,7 +107,10 @@ module _ (w : List ℕ) (q : PageNo) (h : Cleanable q w) (p levels : ℕ) (count
       pub trimmed_waits : Waits ((store_of w₁).levels - 1) o
       trimmed_waits = rw (levels_kept, ← levels_are) t.waits
 
-      module _ (w₂ : List ℕ) (back : Grown (length (store_of w₁).pages) w₁ (put_back (held_by o) (tree_of (store_of w₁))) w₂) where
+      module _ (os : List Orphan) (same : os ≡ o) (w₂ : List ℕ) (put : Grown (length (store_of w₁).pages) w₁ (put_back (held_by os) (tree_of (store_of w₁))) w₂) where
+        back : Grown (length (store_of w₁).pages) w₁ (put_back (held_by o) (tree_of (store_of w₁))) w₂
+        back = rw same at put
+
         pub back_count : Ready p w₂
         back_count = rw t.pages.ready.counted at back.ready
 
@@ -124,7 +124,7 @@ module _ (w : List ℕ) (q : PageNo) (h : Cleanable q w) (p levels : ℕ) (count
             let s = store_of w in
             let made : Trimmed → Tree = λ r. given_way (put_back r.orphans (record { root = s.root; levels = s.levels; pages = r.pages })) in
             let after : given_way (tree_of (store_of w₂)) ≡ made (trimmed_in w mark (levels - 1) root q) = ap given_way (grown_tree back ∙ ap₂ put_back t.orphans (grown_tree (wrote_grown t.pages))) in
-            let same : made (trimmed_in w mark (levels - 1) root q) ≡ made (trimmed_in w mark (s.levels - 1) s.root q) = ap₂ (λ n r. made (trimmed_in w mark (n - 1) r q)) levels_are root_is in
-            let put : Grown p w₁ (put_back (held_by o) (tree_of (store_of w₁))) w₂ = rw t.pages.ready.counted at back in
+            let alike : made (trimmed_in w mark (levels - 1) root q) ≡ made (trimmed_in w mark (s.levels - 1) s.root q) = ap₂ (λ n r. made (trimmed_in w mark (n - 1) r q)) levels_are root_is in
+            let then : Grown p w₁ (put_back (held_by o) (tree_of (store_of w₁))) w₂ = rw t.pages.ready.counted at back in
             subst (λ n. Grown n w (made (trimmed_in w mark (s.levels - 1) s.root q)) w₃) all_pages
-            (subst (λ z. Grown p w z w₃) (after ∙ same) (grown_then (wrote_grown t.pages) (grown_then put last)))
+            (subst (λ z. Grown p w z w₃) (after ∙ alike) (grown_then (wrote_grown t.pages) (grown_then then last)))

@@ -1,12 +1,12 @@
 -- What cleaning asks of a store's words, what it leaves, and what waits meanwhile to be put back.
-use Rattle.std.specs.Prelude.{ℕ, ◌+◌, ◌*◌, ◌-◌, ◌≤◌, ◌≡◌, Bool, true, false, cond, List, ◌++◌, map, ltb, length, take, set}
+use Rattle.std.specs.Prelude.{ℕ, ◌*◌, ◌-◌, ◌≤◌, ◌≡◌, Bool, cond, Option, List, ◌++◌, map, ltb, length, set}
+use Rattle.std.specs.List.{position}
 use Rattle.rules.specs.declared.Stamp.{Stamp}
 use Rattle.rules.specs.declared.PageNo.{PageNo}
 use Rattle.rules.specs.declared.Entry.{Entry}
-use Rattle.rules.specs.declared.Slot.{Slot}
-use Rattle.rules.specs.Lists.{keep, first, without}
+use Rattle.rules.specs.Lists.{keep, without}
 use Rattle.rules.specs.Store.{Page as Contents, Store, child_of, free_page, page_at, put_page, store_of}
-use Rattle.rules.specs.Memo.{is_latest, is_obsolete}
+use Rattle.rules.specs.Memo.{is_latest}
 use Rattle.rules.specs.Tree.{Tree, with_places, child_place}
 use Rattle.rules.specs.Cleaning.{Orphan as Waiting, Trimmed, reached_under, among, path_to, trimmed_below}
 use Rattle.rules.specs.Views.{MemoInRange, ProperBox}
@@ -14,7 +14,6 @@ use Rattle.rules.specs.laws.All.{All}
 use Rattle.theorems.specs.LeafToClean.{Followed}
 use Rattle.tree.specs.Putting.{Ready, Wrote}
 use Rattle.trim.specs.declared.Orphan.{Orphan}
-use Rattle.trim.specs.declared.Orphans.{Orphans}
 
 -- ---- what is asked for
 -- the words of a store of p pages, whose memo can be looked up in
@@ -24,42 +23,37 @@ pub record Readable (p : ℕ) (w : List ℕ) : Type 0 where
   pub memo : MemoInRange (store_of w).slots (store_of w).memo
 
 -- ---- what a leaf keeps, and what it loses
-abbrev pub kept_by : Bool → List Slot → Entry → Bool
-kept_by true memo = is_latest memo
-kept_by false memo = is_obsolete memo
-
--- page `at` with only its latest places, or only its obsolete ones
-abbrev pub page_kept : Bool → Store → PageNo → Contents
-page_kept latest s at = with_places (page_at s.pages at) (keep (kept_by latest s.memo) (page_at s.pages at).places)
+-- page `at` with only those of its places that pass the test
+abbrev pub page_kept : (Entry → Bool) → Store → PageNo → Contents
+page_kept test s at = with_places (page_at s.pages at) (keep test (page_at s.pages at).places)
 
 -- ---- the way to the leaf
 -- whether page `at` at this level is q, or one of the pages under it is
 abbrev pub leads_to : List Contents → ℕ → PageNo → PageNo → Bool
 leads_to ps level q at = among q (reached_under ps level at)
 
--- the first of the places whose child at this level leads to q
-abbrev pub way : List Contents → ℕ → PageNo → List Entry → ℕ
-way ps level q es = first (λ e. leads_to ps level q (child_of e)) es
+-- the first of the places whose child at this level leads to q, where one does
+abbrev pub way : List Contents → ℕ → PageNo → List Entry → Option ℕ
+way ps level q es = position (λ e. leads_to ps level q (child_of e)) es
 
 -- the path down to the leaf q, `depth` levels below page `at`, leads there: each of its places is one of its page's
 pub record LeafBelow (w : List ℕ) (depth : ℕ) (at q : PageNo) : Type 0 where
   pub path : Followed (store_of w).pages depth at (path_to (store_of w).pages depth at q) q
 
 -- ---- what waits
--- the rules' record of a struct, and of those that an array holds
+-- the rules' record of a struct, and of each that waits
 abbrev pub waiting : Orphan → Waiting
 waiting o = record { level = o.level; place = o.place }
 
-unfoldable pub held_by : Orphans → List Waiting
-held_by o = map waiting (take o.count o.list)
+abbrev pub held_by : List Orphan → List Waiting
+held_by os = map waiting os
+
+-- places of pages at this level
+abbrev pub at_level : ℕ → Entry → Orphan
+at_level level place = record { level = level; place = place }
 
 abbrev pub wait_at : ℕ → List Entry → List Waiting
 wait_at level es = map (λ e. record { level = level; place = e }) es
-
--- the places come from a page at this level, and wait behind the others
-pub record Added (o : Orphans) (level : ℕ) (es : List Entry) (r : Orphans) : Type 0 where
-  pub counted : r.count ≡ o.count + length es
-  pub held : held_by r ≡ held_by o ++ wait_at level es
 
 -- what can be put back: its box is proper, and there is a page at its level
 pub record Placeable (levels : ℕ) (o : Waiting) : Type 0 where
@@ -67,9 +61,9 @@ pub record Placeable (levels : ℕ) (o : Waiting) : Type 0 where
   pub proper : ProperBox o.place.bounds
 
 -- at most three from each level
-pub record Waits (levels : ℕ) (o : Orphans) : Type 0 where
-  pub few : o.count ≤ 3 * levels
-  pub placeable : All (Placeable levels) (held_by o)
+pub record Waits (levels : ℕ) (os : List Orphan) : Type 0 where
+  pub few : length os ≤ 3 * levels
+  pub placeable : All (λ o. Placeable levels (waiting o)) os
 
 -- ---- taking out what is thin
 -- the leaf q below page `at` keeps its latest places and gets the mark
@@ -78,8 +72,8 @@ trimmed_in w mark depth at q =
     trimmed_below (keep (is_latest (store_of w).memo)) mark depth (store_of w).pages (path_to (store_of w).pages depth at q) at
 
 -- the pages of these words, and what waits
-abbrev pub so_far : List ℕ → Orphans → Trimmed
-so_far w o = record { pages = (store_of w).pages; orphans = held_by o }
+abbrev pub so_far : List ℕ → List Orphan → Trimmed
+so_far w os = record { pages = (store_of w).pages; orphans = held_by os }
 
 -- page `at` with the contents g, whose child c, in place i, is freed; or has its box made anew
 abbrev pub child_freed : List Contents → PageNo → Contents → ℕ → PageNo → List Contents
@@ -97,10 +91,10 @@ trimmed_place level at g i c r =
     cond (ltb (length left) 4) out stay
 
 -- the pages are as the rules say, and so is what waits
-pub record TrimmedTo (p : ℕ) (w : List ℕ) (depth : ℕ) (t : Trimmed) (w' : List ℕ) (o : Orphans) : Type 0 where
+pub record TrimmedTo (p : ℕ) (w : List ℕ) (depth : ℕ) (t : Trimmed) (w' : List ℕ) (os : List Orphan) : Type 0 where
   pub pages : Wrote p w t.pages w'
-  pub orphans : held_by o ≡ t.orphans
-  pub waits : Waits depth o
+  pub orphans : held_by os ≡ t.orphans
+  pub waits : Waits depth os
 
 -- ---- the whole tree
 -- the root page is freed, and its child c is the root

@@ -2,7 +2,7 @@
 // with one child gives way to it.
 #![tactic(auto)]
 
-ghost use Rattle.std.specs.Prelude.{◌≡◌, ◌+◌, ◌-◌, ◌≤◌, ◌<◌, length};
+ghost use Rattle.std.specs.Prelude.{◌≡◌, ◌+◌, ◌-◌, ◌≤◌, ◌<◌, ◌++◌, Bool, map, length};
 ghost use Rattle.rules.specs.Lists.{keep};
 ghost use Rattle.rules.specs.Memo as rules;
 ghost use Rattle.rules.specs.Store.{page_at, store_of};
@@ -11,59 +11,42 @@ ghost use Rattle.rules.specs.Cleaning.{put_back, given_way, cleaned};
 ghost use Rattle.page.specs.Struct.{contents, laid_page};
 ghost use Rattle.memo.specs.Slots.{HoldsMemo};
 ghost use Rattle.tree.specs.Putting.{Ready, Laid, Wrote, Grown};
-ghost use Rattle.trim.specs.Trimming.{Readable, kept_by, page_kept, leads_to, way, Added, Waits, trimmed_in, child_freed, child_renewed, trimmed_place, so_far, TrimmedTo, LeafBelow, held_by, root_lowered, Cleanable};
+ghost use Rattle.trim.specs.Trimming.{Readable, page_kept, leads_to, way, at_level, Waits, trimmed_in, child_freed, child_renewed, trimmed_place, so_far, TrimmedTo, LeafBelow, held_by, root_lowered, Cleanable};
 
+use arrayvec::ArrayVec;
 use page::Page;
+use rules::kind::Kind;
 use rules::{Entry, PageNo, Stamp};
 
 // A place that waits to be put back, and the level of the page that it goes into.
-#[derive(Clone, Copy)]
+#[derive(Clone, Copy, Debug, Default, PartialEq, Eq)]
 struct Orphan {
     level: u32,
     place: Entry,
 }
 
-// Those that wait, the first `count` of the list: fewer than four places of one page on each of four levels.
-#[derive(Clone, Copy)]
-struct Orphans {
-    count: usize,
-    list: [Orphan; 12],
-}
+// Those that wait: fewer than four places of one page on each of four levels.
+type Orphans = ArrayVec<Orphan, 12>;
 
 // ---- what a leaf keeps
 
-// Whether an entry is latest, or whether it is obsolete.
-fn is_kept(store: &[u32], e: Entry, latest: bool) -> bool
-    requires { HoldsMemo store.now }
-    ensures { result ≡ kept_by latest (store_of store.now).memo e }
-{
-    let is_latest = memo::is_latest(memo::part(store), e);
-    if latest {
-        return is_latest;
-    }
-    !is_latest
-}
-
-// Page `at` with only its latest places, or only its obsolete ones, in their order.
-#[tactic(auto, using(tree::specs::Laws::header_room, crate::proofs::Keeping::pages_room, crate::proofs::Keeping::kept_start, crate::proofs::Keeping::memo_held, crate::proofs::Keeping::kept_more, crate::proofs::Keeping::kept_same))]
-fn kept_in(store: &[u32], at: PageNo, latest: bool) -> Page
-    requires { Readable (length (store_of store.now).pages) store.now }
-    ensures { result ≡ laid_page (page_kept latest (store_of store.now) at) }
+// Page `at` with only those of its places that pass the test, in their order.
+#[tactic(auto, using(tree::specs::Laws::header_room, crate::proofs::Keeping::pages_room, crate::proofs::Keeping::count_most))]
+fn kept_in<F: Fn(Entry) -> bool>(store: &[u32], at: PageNo, passes: F) -> Page
+    requires readable { Readable (length (store_of store.now).pages) store.now }
+    requires callable { F.IsAlwaysCallable passes }
+    ensures { (test : Entry → Bool) → ((e : Entry) (b : Bool) → F.post passes e b → b ≡ test e) → result ≡ laid_page (page_kept test (store_of store.now) at) }
 {
     let g = page::page_at(store, header::pages(store), at);
-    let n = g.count as usize;
-    let mark = g.mark;
-    let mut r = page::empty_page();
-    r.kind = g.kind;
-    r.mark = mark;
-    let mut i = 0;
-    while i < n {
-        let e = page::place_at(g, i);
-        if is_kept(store, e, latest) {
-            let more = page::add_place(r, e);
-            r = more;
+    let mut r = Page {
+        kind: g.kind,
+        mark: g.mark,
+        ..page::empty_page()
+    };
+    for &e in &g.places[..g.count as usize] {
+        if passes(e) {
+            r = page::add_place(r, e);
         }
-        i += 1;
     }
     r
 }
@@ -73,7 +56,8 @@ pub fn latest_in(store: &[u32], at: PageNo) -> Page
     requires { Readable (length (store_of store.now).pages) store.now }
     ensures { result ≡ laid_page (with_places (page_at (store_of store.now).pages at) (keep (rules.is_latest (store_of store.now).memo) (page_at (store_of store.now).pages at).places)) }
 {
-    kept_in(store, at, true)
+    let memo = memo::part(store);
+    kept_in(store, at, |e| memo::is_latest(memo, e))
 }
 
 // Page `at` with only those that are obsolete.
@@ -81,91 +65,65 @@ pub fn obsolete_in(store: &[u32], at: PageNo) -> Page
     requires { Readable (length (store_of store.now).pages) store.now }
     ensures { result ≡ laid_page (with_places (page_at (store_of store.now).pages at) (keep (rules.is_obsolete (store_of store.now).memo) (page_at (store_of store.now).pages at).places)) }
 {
-    kept_in(store, at, false)
+    let memo = memo::part(store);
+    kept_in(store, at, |e| !memo::is_latest(memo, e))
 }
 
 // ---- the way to the leaf
 
 // Whether q is among the pages under page `at`, itself one of them, which stands at this level; no leaf is read.
 #[cycle(reaches_way_to)]
+#[tactic(auto, using(tree::specs::Laws::room))]
 fn reaches(store: &[u32], p: usize, level: u32, at: PageNo, q: PageNo) -> bool
     requires { Ready p store.now × (1 ≤ level) }
     ensures { result ≡ leads_to (store_of store.now).pages level q at }
 {
-    if at.0 == q.0 {
-        return true;
-    }
-    if level == 1 {
-        return false;
-    }
-    let g = page::page_at(store, p, at);
-    let n = g.count as usize;
-    way_to(store, p, level - 1, g, q) < n
+    at == q || (level > 1 && way_to(store, p, level - 1, page::page_at(store, p, at), q).is_some())
 }
 
-// The first place of g whose child, which stands at this level, leads to q; where none does, how many there are.
+// The first place of g whose child, which stands at this level, leads to q.
 #[cycle(reaches_way_to)]
-fn way_to(store: &[u32], p: usize, level: u32, g: Page, q: PageNo) -> usize
+#[tactic(auto, using(tree::specs::Laws::laid_most))]
+fn way_to(store: &[u32], p: usize, level: u32, g: Page, q: PageNo) -> Option<usize>
     requires { Ready p store.now × Laid g × (1 ≤ level) }
     ensures { result ≡ way (store_of store.now).pages level q (contents g).places }
 {
-    let n = g.count as usize;
-    let mut i = 0;
-    while i < n {
-        let e = page::place_at(g, i);
+    for (i, e) in g.places[..g.count as usize].iter().enumerate() {
         if reaches(store, p, level, PageNo(e.key), q) {
-            return i;
+            return Some(i);
         }
-        i += 1;
     }
-    i
+    None
 }
 
 // ---- taking out what is thin
 
-fn no_orphans() -> Orphans
-    ensures { result.count ≡ 0 }
+// The places of a page at this level that is freed wait behind the others.
+fn add_orphans(waiting: &mut Orphans, level: u32, places: &[Entry])
+    requires { length waiting.old.items + length places.now ≤ 12 }
+    ensures { waiting.new.items ≡ waiting.old.items ++ map (at_level level) places.now }
 {
-    let none = Orphan {
-        level: 0,
-        place: page::no_place(),
-    };
-    Orphans {
-        count: 0,
-        list: [none; 12],
+    for &place in places {
+        waiting.push(Orphan { level, place });
     }
-}
-
-// The places of g, a page at this level that is freed, wait behind the others.
-fn add_orphans(waiting: Orphans, level: u32, g: Page) -> Orphans
-    requires { Laid g × (waiting.count + g.count ≤ 12) }
-    ensures { Added waiting level (contents g).places result }
-{
-    let n = g.count as usize;
-    let mut r = waiting;
-    let mut i = 0;
-    while i < n {
-        let k = r.count;
-        let place = page::place_at(g, i);
-        r.list[k] = Orphan { level, place };
-        r.count += 1;
-        i += 1;
-    }
-    r
 }
 
 // The leaf keeps its latest entries and gets the mark.
+#[tactic(auto, using(tree::specs::Laws::room))]
 fn trim_leaf(store: &mut [u32], p: usize, at: PageNo, mark: Stamp)
     requires { Readable p store.old }
     ensures { Wrote p store.old (trimmed_in store.old mark 0 at at).pages store.new }
 {
-    let mut g = latest_in(store, at);
-    g.kind = 1;
-    g.mark = mark;
+    let g = Page {
+        kind: Kind::Leaf as u32,
+        mark,
+        ..latest_in(store, at)
+    };
     page::put_page(store, p, at, g);
 }
 
 // Frees page c, which page `at`, read as g, has in place i: its place there goes too.
+#[tactic(auto, using(tree::specs::Laws::room, tree::specs::Laws::laid_most, crate::proofs::Thin::freed_room))]
 fn free_child(store: &mut [u32], p: usize, at: PageNo, g: Page, i: usize, c: PageNo)
     requires { Ready p store.old × Laid g × (i < g.count) }
     ensures { Wrote p store.old (child_freed (store_of store.old).pages at (contents g) i c) store.new }
@@ -175,15 +133,21 @@ fn free_child(store: &mut [u32], p: usize, at: PageNo, g: Page, i: usize, c: Pag
 }
 
 // Makes the box of page c anew, which page `at`, read as g, has in place i.
+#[tactic(auto, using(tree::specs::Laws::room))]
 fn renew_child(store: &mut [u32], p: usize, at: PageNo, g: Page, i: usize, c: PageNo)
     requires { Ready p store.old × Laid g × (i < g.count) }
     ensures { Wrote p store.old (child_renewed (store_of store.old).pages at (contents g) i c) store.new }
 {
-    let place = tree::child_place(store, p, c);
-    page::put_page(store, p, at, page::set_place(g, i, place));
+    page::put_page(
+        store,
+        p,
+        at,
+        page::set_place(g, i, tree::child_place(store, p, c)),
+    );
 }
 
 // Page `at`, read as g, once its child c at this level, in place i, has been trimmed: a thin child is freed and its places wait.
+#[tactic(auto, using(tree::specs::Laws::room, tree::specs::Laws::read_laid))]
 fn trim_place(
     store: &mut [u32],
     p: usize,
@@ -192,21 +156,23 @@ fn trim_place(
     g: Page,
     i: usize,
     c: PageNo,
-    waiting: Orphans,
-) -> Orphans
-    requires { Ready p store.old × Laid g × (i < g.count) × (1 ≤ level) × (level ≤ 4) × Waits (level - 1) waiting }
-    ensures { TrimmedTo p store.old level (trimmed_place level at (contents g) i c (so_far store.old waiting)) store.new result }
+    waiting: &mut Orphans,
+)
+    requires { Ready p store.old × Laid g × (i < g.count) × (1 ≤ level) × (level ≤ 4) × Waits (level - 1) waiting.old.items }
+    ensures { TrimmedTo p store.old level (trimmed_place level at (contents g) i c (so_far store.old waiting.old.items)) store.new waiting.new.items }
 {
     let left = page::page_at(store, p, c);
-    if left.count < 4 {
+    let is_thin = left.count < 4;
+    if is_thin {
         free_child(store, p, at, g, i, c);
-        return add_orphans(waiting, level, left);
+        add_orphans(waiting, level, &left.places[..left.count as usize]);
+    } else {
+        renew_child(store, p, at, g, i, c);
     }
-    renew_child(store, p, at, g, i, c);
-    waiting
 }
 
 // Trims the leaf q, which stands `depth` levels below page `at`: it calls itself for the child that leads there.
+#[tactic(auto, using(tree::specs::Laws::room))]
 fn trim_below(
     store: &mut [u32],
     p: usize,
@@ -216,34 +182,30 @@ fn trim_below(
     mark: Stamp,
 ) -> Orphans
     requires { Readable p store.old × (depth ≤ 4) × LeafBelow store.old depth at q }
-    ensures { TrimmedTo p store.old depth (trimmed_in store.old mark depth at q) store.new result }
+    ensures { TrimmedTo p store.old depth (trimmed_in store.old mark depth at q) store.new result.items }
 {
     if depth == 0 {
         trim_leaf(store, p, at, mark);
-        return no_orphans();
+        return ArrayVec::new();
     }
     let g = page::page_at(store, p, at);
-    let i = way_to(store, p, depth, g, q);
-    let place = page::place_at(g, i);
-    let child = PageNo(place.key);
-    let waiting = trim_below(store, p, depth - 1, child, q, mark);
-    trim_place(store, p, depth, at, g, i, child, waiting)
+    let i = way_to(store, p, depth, g, q).unwrap();
+    let child = PageNo(page::place_at(g, i).key);
+    let mut waiting = trim_below(store, p, depth - 1, child, q, mark);
+    trim_place(store, p, depth, at, g, i, child, &mut waiting);
+    waiting
 }
 
 // ---- the whole tree
 
 // Puts back what waits, in turn, each place into a page at its level.
-fn put_back(store: &mut [u32], waiting: Orphans)
+fn put_back(store: &mut [u32], waiting: &[Orphan])
     requires ready { Ready (length (store_of store.old).pages) store.old }
-    requires waits { ((store_of store.old).levels ≤ 5) × Waits ((store_of store.old).levels - 1) waiting }
-    ensures { Grown (length (store_of store.old).pages) store.old (put_back (held_by waiting) (tree_of (store_of store.old))) store.new }
+    requires waits { ((store_of store.old).levels ≤ 5) × Waits ((store_of store.old).levels - 1) waiting.now }
+    ensures { Grown (length (store_of store.old).pages) store.old (put_back (held_by waiting.now) (tree_of (store_of store.old))) store.new }
 {
-    let n = waiting.count;
-    let mut i = 0;
-    while i < n {
-        let o = waiting.list[i];
+    for o in waiting {
         tree::put_at(store, o.level, o.place);
-        i += 1;
     }
 }
 
@@ -261,19 +223,15 @@ fn lower_root(store: &mut [u32], p: usize, c: PageNo)
 }
 
 // An inner root with one child gives way to it.
+#[tactic(auto, using(tree::specs::Laws::room, tree::specs::Laws::header_room))]
 fn give_way(store: &mut [u32], p: usize)
     requires { Ready p store.old × (1 ≤ (store_of store.old).levels) }
     ensures { Grown p store.old (given_way (tree_of (store_of store.old))) store.new }
 {
     let g = page::page_at(store, p, header::root(store));
-    if g.kind != 2 {
-        return;
+    if g.kind == Kind::Inner as u32 && g.count == 1 {
+        lower_root(store, p, PageNo(g.places[0].key));
     }
-    if g.count != 1 {
-        return;
-    }
-    let only = page::place_at(g, 0);
-    lower_root(store, p, PageNo(only.key));
 }
 
 // Cleans the leaf q, which gets the mark.
@@ -285,6 +243,6 @@ pub fn clean_tree(store: &mut [u32], q: PageNo, mark: Stamp)
     let root = header::root(store);
     let depth = header::levels(store) - 1;
     let waiting = trim_below(store, p, depth, root, q, mark);
-    put_back(store, waiting);
+    put_back(store, waiting.as_slice());
     give_way(store, p);
 }

@@ -1,4 +1,3 @@
--- `trim::lower_root` meets its contract. Assumes nothing.
 use Rattle.std.proofs.Common.{rules}
 use Rattle.trim.proofs.Whole.{lowered}
 use Rattle.trim.proofs.lower_root.Goals as goal
