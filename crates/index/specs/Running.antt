@@ -1,110 +1,75 @@
--- A run under way: what the steps that are left do from here is what all of them do from the start.
-use Prim.Native.Nat.{ℕ, suc, ◌+◌, ◌-◌, ◌*◌, ◌/◌, ◌≤◌, ◌<◌}
-use native.Mathlib.Omega.{arith}
-use Rattle.std.proofs.Common.{add-one, ◌∙◌, length-set, take-suc-set}
-use Rattle.std.specs.Prelude.{◌≡◌, length, take, set}
-use Rattle.std.proofs.Math.Path.{sym, ap}
-use mathlib.Core.List.{List, [], ◌∷◌, ◌++◌, map, append-nil, append_assoc}
-use Rattle.std.proofs.Math.ListN.{drop}
-use Rattle.std.proofs.Math.Seq.{take_all, drop-drop}
+-- A run under way: the steps so far have left what a run of them leaves, and answered what it answers.
+use Rattle.std.specs.Prelude.{ℕ, ◌+◌, ◌-◌, ◌*◌, ◌/◌, ◌≤◌, ◌<◌, ◌≡◌, refl, List, [], ◌∷◌, ◌++◌, map, length, get_or, take, drop}
+use Rattle.std.proofs.Common.{arith, sym, ◌∙◌, ap, append_assoc, drop-drop}
+use Rattle.std.proofs.lemmas.List.{length-map, map_more}
+use Rattle.std.proofs.Math.Seq.{take_all, take_at, drop_at}
+use Rattle.std.proofs.Math.ListN.{length-take, drop_of_length-le}
+use mathlib.Core.List.{append-nil}
+use borrow.Rule.Slice.PartMut.{put_mid}
 use Rattle.rules.specs.declared.Step.{Step}
 use Rattle.rules.specs.Lists.{cut}
 use Rattle.rules.specs.Store.{Store, words, store_of}
 use Rattle.rules.specs.Steps.{step_of, step, run}
-use Rattle.rules.specs.laws.Splice.{lent}
-use Rattle.steps.specs.declared.Outcome.{Outcome}
+use Rattle.rules.specs.laws.Places.{cut-length}
+use Rattle.theorems.specs.EveryStep.{run_on, two_words}
 use Rattle.steps.specs.Stepping.{Given, Stepped, given_next}
 
--- the steps of these words from number i on, up to n
-abbrev pub steps_from : ℕ → ℕ → List ℕ → List Step
-steps_from n i v = map step_of (cut (n - i) 6 (drop (6 * i) v))
-
--- before step i of the n in v: the lent store w holds h entries, and the steps before have been answered
-pub record Running (s : Store) (v : List ℕ) (n i : ℕ) (w : List ℕ) (h : ℕ) (answers : List ℕ) : Type 0 where
+-- after the first i of the steps, six words each in xs: the lent store w holds h entries, and behind the answers to these steps stand those that were lent
+pub record Running (s : Store) (xs : List (List ℕ)) (lent : List ℕ) (i : ℕ) (w : List ℕ) (h : ℕ) (answers : List ℕ) : Type 0 where
   pub given : Given w h
-  pub most : i ≤ n
-  pub long : length answers ≡ 2 * n
-  pub store : (run (store_of w) (steps_from n i v)).store ≡ (run s (map step_of (cut n 6 v))).store
-  pub answered : take (2 * i) answers ++ (run (store_of w) (steps_from n i v)).answers ≡ (run s (map step_of (cut n 6 v))).answers
+  pub stored : store_of w ≡ (run s (map step_of (take i xs))).store
+  pub answered : answers ≡ (run s (map step_of (take i xs))).answers ++ drop (2 * i) lent
 
 -- what a run of all the steps in v leaves in the lent store w and in the answers
 pub record RanAll (w v w' answers : List ℕ) : Type 0 where
   pub stored : w' ≡ words (run (store_of w) (map step_of (cut (length v / 6) 6 v))).store
   pub answered : answers ≡ (run (store_of w) (map step_of (cut (length v / 6) 6 v))).answers
 
+-- ---- a run of one step more
+last_store : (s : Store) (xs : List Step) (x : Step) → (run s (xs ++ (x ∷ []))).store ≡ (step (run s xs).store x).store
+unfolding run
+last_store s xs x = run_on s xs (x ∷ [])
+
+last_answers : (s : Store) (xs : List Step) (x : Step)
+    → (run s (xs ++ (x ∷ []))).answers ≡ (run s xs).answers ++ ((step (run s xs).store x).number ∷ (step (run s xs).store x).count ∷ [])
+unfolding run
+last_answers s [] x = refl
+last_answers s (y ∷ ys) x = ap (λ a. (step s y).number ∷ (step s y).count ∷ a) (last_answers (step s y).store ys x)
+
 -- before the first step
-pub running_first : (w v answers : List ℕ) (n h : ℕ) → Given w h → length answers ≡ 2 * n → Running (store_of w) v n 0 w h answers
-running_first w v answers n h g l =
-    let e : n - 0 ≡ n = omega arith in
-    let same : steps_from n 0 v ≡ map step_of (cut n 6 v) = rw e in
-    record { given = g; most = omega arith; long = l; store = rw same; answered = rw same }
+pub running_first : (w : List ℕ) (xs : List (List ℕ)) (lent : List ℕ) (h : ℕ) → Given w h → Running (store_of w) xs lent 0 w h lent
+unfolding run
+running_first w xs lent h g = record { given = g; stored = refl; answered = refl }
 
-module _ (s : Store) (v : List ℕ) (n i : ℕ) (w : List ℕ) (h : ℕ) (answers : List ℕ) (r : Running s v n i w h answers) where
-  -- each step has its two words
-  pub second_inside : i < n → (x : ℕ) → 2 * i + 1 < length (set answers (2 * i) x)
-  second_inside h x = omega (arith, length-set answers (2 * i) x, r.long)
+-- each step has its two words, and one more is run
+module _ (s : Store) (xs : List (List ℕ)) (lent : List ℕ) (i : ℕ) (w : List ℕ) (h : ℕ) (answers : List ℕ) (r : Running s xs lent i w h answers) (inside : i < length xs) where
+  abbrev done : List ℕ
+  done = (run s (map step_of (take i xs))).answers
 
-  -- after the last one
-  module _ (done : n ≤ i) where
-    none_left : steps_from n i v ≡ []
-    none_left = let e : n - i ≡ 0 = omega arith in rw e
+  done_length : length done ≡ 2 * i
+  done_length = two_words s (map step_of (take i xs)) ∙ simp (length-map, length-take) (omega arith)
 
-    run_stored : w ≡ words (run s (map step_of (cut n 6 v))).store
-    unfolding run
-    run_stored = sym r.given.written ∙ ap words (rw none_left at r.store)
-
-    run_answered : answers ≡ (run s (map step_of (cut n 6 v))).answers
-    unfolding run
-    run_answered =
-        rw (none_left, append-nil, take_all (2 * i) answers (omega (arith, r.long))) at r.answered
-
-  -- a step more
-  module _ (inside : i < n) (a : ℕ) (at : a ≡ 6 * i) (x : Step) (read : x ≡ step_of (take (a + 6 - a) (drop a v))) where
-    next_step : steps_from n i v ≡ x ∷ steps_from n (i + 1) v
-    next_step =
-        let e : n - i ≡ suc (n - (i + 1)) = omega arith in
-        let m : 6 * i + 6 ≡ 6 * (i + 1) = omega arith in
-        let d : drop 6 (drop (6 * i) v) ≡ drop (6 * (i + 1)) v = drop-drop 6 (6 * i) v ∙ ap (λ m. drop m v) m in
-        rw (e, d, read, at, lent v (6 * i) 6)
-
-    module _ (w' : List ℕ) (o : Outcome) (t : Stepped (step (store_of w) x) w' o) (j : ℕ) (next : j ≡ 2 * i) where
-      -- its two words, behind those of the steps before
-      abbrev told : List ℕ
-      told = set (set answers j o.number) (j + 1) o.count
-
-      two_more : take (2 * (i + 1)) told ≡ take (2 * i) answers ++ (o.number ∷ o.count ∷ [])
-      two_more =
-          let first = set answers (2 * i) o.number in
-          let e : 2 * (i + 1) ≡ suc (suc (2 * i)) = omega arith in
-          let l : length first ≡ 2 * n = length-set answers (2 * i) o.number ∙ r.long in
-          let one : take (suc (2 * i)) first ≡ take (2 * i) answers ++ (o.number ∷ []) = take-suc-set answers (2 * i) o.number (omega (arith, r.long)) in
-          let two : take (suc (suc (2 * i))) (set first (suc (2 * i)) o.count) ≡ take (suc (2 * i)) first ++ (o.count ∷ []) = take-suc-set first (suc (2 * i)) o.count (omega arith) in
-          rw (next, e, add-one (2 * i)) (two ∙ ap (λ z. z ++ (o.count ∷ [])) one ∙ append_assoc (take (2 * i) answers) (o.number ∷ []) (o.count ∷ []))
-
-      -- what is left from there
-      left : run (store_of w) (steps_from n i v) ≡ record { store = (run (store_of w') (steps_from n (i + 1) v)).store; answers = o.number ∷ o.count ∷ (run (store_of w') (steps_from n (i + 1) v)).answers }
-      unfolding run
-      left = rw (next_step, t.number, t.count, t.stored)
-
-      pub running_next : Running s v n (i + 1) w' o.held told
-      running_next =
-          let rest = run (store_of w') (steps_from n (i + 1) v) in
-          record {
-            given = given_next w h x r.given w' o t;
-            most = omega arith;
-            long = length-set (set answers j o.number) (j + 1) o.count ∙ length-set answers j o.number ∙ r.long;
-            store = sym (ap (λ z. z.store) left) ∙ r.store;
-            answered =
-                ap (λ z. z ++ rest.answers) two_more
-                ∙ append_assoc (take (2 * i) answers) (o.number ∷ o.count ∷ []) rest.answers
-                ∙ sym (ap (λ z. take (2 * i) answers ++ z.answers) left)
-                ∙ r.answered;
-          }
+  pub running_next : (d : List ℕ) (x : Step) (w' : List ℕ) (m c h' : ℕ) (words : List ℕ) → x ≡ step_of (get_or xs i d) → Stepped (step (store_of w) x) w' m c h'
+      → words ≡ m ∷ c ∷ [] → Running s xs lent (i + 1) w' h' (put_mid (2 * i) (2 * i + 2 - 2 * i) answers words)
+  running_next d x w' m c h' words e t told =
+      let more : map step_of (take (i + 1) xs) ≡ map step_of (take i xs) ++ (x ∷ []) = rw e (map_more step_of xs i d inside) in
+      let two : 2 * i + 2 - 2 * i ≡ 2 = omega arith in
+      let next : 2 * (i + 1) ≡ 2 * i + 2 = omega arith in
+      record {
+        given = given_next w h x r.given w' m c h' t;
+        stored = t.stored ∙ ap (λ u. (step u x).store) r.stored ∙ sym (rw more (last_store s (map step_of (take i xs)) x));
+        answered =
+            rw (told, two, next, more, last_answers, t.number, t.count, r.stored, r.answered, take_at done (drop (2 * i) lent) (2 * i) done_length, drop_at done (drop (2 * i) lent) (2 * i) done_length, drop-drop, append_assoc);
+      }
 
 -- so all have been run
-pub ran_all : (w₀ v : List ℕ) (n i : ℕ) (w : List ℕ) (h : ℕ) (answers : List ℕ) → n ≡ length v / 6 → Running (store_of w₀) v n i w h answers → n ≤ i → RanAll w₀ v w answers
-ran_all w₀ v n i w h answers e r done =
+pub ran_all : (w v lent : List ℕ) (xs : List (List ℕ)) (i : ℕ) (w' : List ℕ) (h : ℕ) (answers : List ℕ) → xs ≡ cut (length v / 6) 6 v → length lent ≡ 2 * (length v / 6)
+    → Running (store_of w) xs lent i w' h answers → length xs ≤ i → RanAll w v w' answers
+ran_all w v lent xs i w' h answers e l r past =
+    let n : length xs ≡ length v / 6 = ap length e ∙ cut-length (length v / 6) 6 v in
+    let all : take i xs ≡ cut (length v / 6) 6 v = take_all i xs past ∙ e in
+    let none : drop (2 * i) lent ≡ [] = drop_of_length-le lent {i = 2 * i} (omega arith) in
     record {
-      stored = rw e at (run_stored (store_of w₀) v n i w h answers r done);
-      answered = rw e at (run_answered (store_of w₀) v n i w h answers r done);
+      stored = sym r.given.written ∙ ap words (rw all at r.stored);
+      answered = rw (all, none, append-nil) at r.answered;
     }

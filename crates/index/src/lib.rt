@@ -1,16 +1,19 @@
-// The public calls. Each tests its own input, answers by the table of numbers and asks nothing of its caller.
+// The public calls. Each tests its own input, answers a refusal of the table where that fails, and asks nothing of its caller.
 #![tactic(auto)]
 
-ghost use Rattle.std.specs.Prelude.{◌≡◌, true, ◌*◌, ◌/◌, ◌≤◌, length, get_or};
-ghost use Rattle.rules.specs.Lists.{padded};
+ghost use Rattle.std.specs.Prelude.{◌≡◌, true, [], ◌∷◌, ◌*◌, ◌/◌, ◌≤◌, length};
 ghost use Rattle.rules.specs.Sound.{sound_words};
 ghost use Rattle.rules.specs.Calls as calls;
+ghost use Rattle.rules.specs.Refused.{answer_number, answer_count};
 ghost use Rattle.index.specs.Answers.{Answered};
 ghost use Rattle.index.specs.Running.{RanAll};
 ghost use Rattle.index.specs.Fresh as fresh;
 ghost use Rattle.index.specs.Rows as spec_rows;
 
-use rules::Window;
+use rules::part::Part;
+use rules::refusal::Refusal;
+use rules::{Step, Window};
+use std::ops::Range;
 
 // ---- start
 
@@ -26,174 +29,123 @@ fn first_words(p: u32, k: u32, b: u32) -> [u32; 19]
     ]
 }
 
-fn word_at(first: [u32; 19], i: usize) -> u32
-    ensures { result ≡ get_or first i 0 }
-{
-    if i < 19 {
-        return first[i];
-    }
-    0
-}
-
-// These words, and zeros to the end.
-fn fill(store: &mut [u32], first: [u32; 19])
-    requires { 19 ≤ length store.old }
-    ensures { store.new ≡ padded (length store.old) first }
-{
-    let n = store.len();
-    let mut i = 0;
-    while i < n {
-        store[i] = word_at(first, i);
-        i += 1;
-    }
-}
-
-// A fresh store of p pages, k memo slots and b boards, whatever the slice held; 1, then 2 for its length.
-#[tactic(auto, using(crate::proofs::Laws::start_sizes, crate::proofs::Laws::start_given, crate::proofs::Laws::long_enough))]
-pub fn start(p: u32, k: u32, b: u32, store: &mut [u32]) -> u32
-    ensures { calls.start p k b store.old ≡ record { number = result; store = store.new } }
+// A fresh store of p pages, k memo slots and b boards, whatever the slice held; its sizes are tried, then its length.
+#[tactic(auto, using(std::proofs::lemmas::Bool::Decides::nat_tests), unfolding(rules::specs::Calls::start, rules::specs::Calls::start_number, rules::specs::Calls::started_by, rules::specs::Numbers::first_met, rules::specs::Sound::sizes_in_range, rules::specs::Lists::all_of, rules::specs::Store::store_length))]
+pub fn start(p: u32, k: u32, b: u32, store: &mut [u32]) -> Result<(), Refusal>
+    ensures { calls.start p k b store.old ≡ record { number = answer_number result; store = store.new } }
 {
     if !judge::sizes_fit(p, k, b) {
-        return 1;
+        return Err(Refusal::SizesOutOfRange);
     }
-    let n = header::store_length(p as usize, k as usize, b as usize);
-    if store.len() != n {
-        return 2;
+    if store.len() != header::store_length(p as usize, k as usize, b as usize) {
+        return Err(Refusal::NotLaidOut);
     }
-    let first = first_words(p, k, b);
-    fill(store, first);
-    0
+    let (first, rest) = store.split_at_mut(19);
+    first.copy_from_slice(&first_words(p, k, b));
+    rest.fill(0);
+    Ok(())
 }
 
 // ---- run
 
-// The steps, one after the other, each answered by its number and its count. The entries held are counted once, before the first.
+// A step's two words of answers: its number and its count.
+fn two_words(answer: Result<u32, Refusal>) -> [u32; 2]
+    ensures { result ≡ answer_number answer ∷ answer_count answer ∷ [] }
+{
+    match answer {
+        Ok(count) => [0, count],
+        Err(refusal) => [u32::from(refusal), 0],
+    }
+}
+
+// The steps, one after the other, each answered by its two words. The entries held are counted once, before the first.
+#[tactic(auto, using(steps::specs::Tests::sound_long))]
 fn run_all(store: &mut [u32], steps: &[u32], answers: &mut [u32])
     requires sound { sound_words store.old ≡ true }
     requires answers_len { length answers.old ≡ 2 * (length steps.now / 6) }
     ensures { RanAll store.old steps.now store.new answers.new }
 {
-    let n = steps.len() / 6;
     let mut held = page::held_entries(store, header::pages(store));
-    let mut ran = 0;
-    while ran < n {
-        let a = 6 * ran;
-        let e = a + 6;
-        let x = steps::step_of(&steps[a..e]);
-        let done = steps::step(store, x, held);
-        let j = 2 * ran;
-        answers[j] = done.number;
-        answers[j + 1] = done.count;
-        held = done.held;
-        ran += 1;
+    for (i, words) in steps.as_chunks::<6>().0.iter().enumerate() {
+        let answer = steps::step(store, Step::read(words), &mut held);
+        answers[2 * i..2 * i + 2].copy_from_slice(&two_words(answer));
     }
 }
 
 // Runs the steps, six words each, on the store, which is judged once; refused, every slice is untouched.
-pub fn run(store: &mut [u32], steps: &[u32], answers: &mut [u32]) -> u32
-    ensures { calls.run_call store.old steps.now answers.old ≡ record { number = result; store = store.new; answers = answers.new } }
+#[tactic(auto, using(std::proofs::lemmas::Bool::Decides::nat_tests, crate::proofs::Calls::run_passed, crate::proofs::Calls::judged_sound), unfolding(rules::specs::Numbers::first_met, rules::specs::Calls::ran_by))]
+pub fn run(store: &mut [u32], steps: &[u32], answers: &mut [u32]) -> Result<(), Refusal>
+    ensures { calls.run_call store.old steps.now answers.old ≡ record { number = answer_number result; store = store.new; answers = answers.new } }
 {
-    let number = judge::judge(store);
-    if number != 0 {
-        return number;
-    }
+    judge::judge(store)?;
     if steps.len() % 6 != 0 {
-        return 4;
+        return Err(Refusal::StepCut);
     }
     if answers.len() != 2 * (steps.len() / 6) {
-        return 5;
+        return Err(Refusal::AnswersLength);
     }
     run_all(store, steps, answers);
-    0
+    Ok(())
 }
 
 // ---- query
 
-// What a query answers: how many rows it listed, or the number that it is refused with.
-#[derive(Clone, Copy)]
-pub enum Answer {
-    Listed(usize),
-    Refused(u32),
-}
-
-// The rows of a window, from the row slice's start; refused, the slice is untouched.
-pub fn query(store: &[u32], x0: u32, y0: u32, x1: u32, y1: u32, rows: &mut [u32]) -> Answer
+// The rows of a window, from the row slice's start, and how many they are; refused, the slice is untouched.
+pub fn query(
+    store: &[u32],
+    x0: u32,
+    y0: u32,
+    x1: u32,
+    y1: u32,
+    rows: &mut [u32],
+) -> Result<usize, Refusal>
     ensures { Answered (calls.query_call store.now (record { x0 = x0; y0 = y0; x1 = x1; y1 = y1 }) rows.old) result rows.new }
 {
-    let number = judge::judge(store);
-    if number != 0 {
-        return Answer::Refused(number);
-    }
-    let w = Window { x0, y0, x1, y1 };
-    if !boxes::proper_window(w) {
-        return Answer::Refused(8);
+    judge::judge(store)?;
+    let window = Window { x0, y0, x1, y1 };
+    if !boxes::proper_window(window) {
+        return Err(Refusal::NotProper);
     }
     let mut keys = [0u64; 576];
     let mut work = [0u64; 576];
-    let n = query::find(store, w, &mut keys, &mut work);
+    let n = query::find(store, window, &mut keys, &mut work);
     if rows.len() < 5 * n {
-        return Answer::Refused(15);
+        return Err(Refusal::RowsTooShort);
     }
     query::write_rows(store, &keys, n, rows);
-    Answer::Listed(n)
+    Ok(n)
 }
 
 // ---- boards
 
-// The number for board i: 0 if its rows can be read.
-pub fn board_test(store: &[u32], i: u32) -> u32
-    ensures { result ≡ calls.board_test store.now i }
+// Whether the rows of board i can be read.
+#[tactic(auto, using(std::proofs::lemmas::Bool::Decides::nat_tests, steps::specs::Tests::boards_there, steps::specs::Tests::sound_long, crate::proofs::Calls::judged_sound, crate::proofs::Calls::test_passed), unfolding(rules::specs::Numbers::first_met))]
+pub fn board_test(store: &[u32], i: u32) -> Result<(), Refusal>
+    ensures { answer_number result ≡ calls.board_test store.now i }
 {
-    let number = judge::judge(store);
-    if number != 0 {
-        return number;
-    }
+    judge::judge(store)?;
     if header::boards(store) <= i as usize {
-        return 9;
+        return Err(Refusal::NoSuchBoard);
     }
     if !parts::is_open(store, i as usize) {
-        return 10;
+        return Err(Refusal::OpenOrClosed);
     }
-    0
+    Ok(())
 }
 
-// Where board i's rows stand in the store: from the first word of the first row to behind the last one's; number is the test's.
-#[derive(Clone, Copy)]
-pub struct Part {
-    pub number: u32,
-    pub from: usize,
-    pub to: usize,
-}
-
-// The part of the store that holds board i's rows, an empty one where the test refuses.
-pub fn board_part(store: &[u32], i: u32) -> Part
-    ensures { result ≡ spec_rows.board_part store.now i }
+// Where board i's rows stand in the store: from the first word of the first row to behind the last one's.
+pub fn board_part(store: &[u32], i: u32) -> Result<Range<usize>, Refusal>
+    ensures { spec_rows.board_part store.now i ≡ spec_rows.part_of_answer result }
 {
-    let number = board_test(store, i);
-    if number != 0 {
-        return Part {
-            number,
-            from: 0,
-            to: 0,
-        };
-    }
-    let a = parts::board_start(store, i as usize);
-    let e = a + 86;
-    let n = board::row_count(&store[a..e]);
-    let from = a + 6;
-    Part {
-        number: 0,
-        from,
-        to: from + 5 * n,
-    }
+    board_test(store, i)?;
+    let start = parts::board_start(store, i as usize);
+    let from = start + 6;
+    Ok(from..from + 5 * board::row_count(&store[start..start + 86]))
 }
 
 // Board i's rows as they stand in the store, or an empty part where the test refuses.
 pub fn board_rows<'a>(store: &'a [u32], i: u32) -> &'a [u32]
     ensures { result.now ≡ calls.board_rows store.now i }
 {
-    let part = board_part(store, i);
-    let from = part.from;
-    let to = part.to;
-    &store[from..to]
+    &store[board_part(store, i).unwrap_or(0..0)]
 }

@@ -1,8 +1,7 @@
 -- Words of sizes in range are sound words exactly if they are tidy, their pages a tree, and their entries and boards sound.
-use Rattle.std.specs.Prelude.{ℕ, ◌≡◌, refl, Bool, true, false, not, ◌&&◌, List, length}
-use Rattle.std.proofs.Common.{sym, ◌∙◌}
+use Rattle.std.specs.Prelude.{ℕ, ◌≡◌, refl, Bool, true, false, ◌&&◌, List, length}
+use Rattle.std.proofs.Common.{sym}
 use Rattle.std.proofs.lemmas.List.{length-map}
-use Rattle.std.proofs.lemmas.Bool.{not-true, not-false}
 use Rattle.rules.specs.Lists.{same_words}
 use Rattle.rules.specs.Store.{Store, words, store_of}
 use Rattle.rules.specs.Sound.{sizes_in_range, in_range, rule8, sound, sound_words}
@@ -70,81 +69,56 @@ module _ (w : List ℕ) (sizes : sizes_read w ≡ true) where
       (and_both (each_all_of _ (i.1.1.1.0 also u.0 also u.1.0 also u.1.1.0 also u.1.1.1.0 also tt))
       u.1.1.1.1.0))
 
-  pub sound-parts : sound_words w ≡ parts
-  sound-parts = same_tests (sound_words w) parts then_parts parts_then
+  pub sound_parts : sound_words w ≡ parts
+  sound_parts = same_tests (sound_words w) parts then_parts parts_then
 
 -- ---- the parts are tried in turn, and each relies on those before it
 module _ (w : List ℕ) (sizes : sizes_read w ≡ true) (laid : laid_out w ≡ true) where
   pub laid_given : Laid w
   laid_given = laid_holds w sizes laid
 
-  module _ (a : Bool) (tidied : a ≡ tidy w) where
-    pub tidy_off : not a ≡ true → false ≡ sound_words w
-    tidy_off f = sym (sound-parts w sizes ∙ rw (sym tidied ∙ not-true a f))
+  module _ (tidied : tidy w ≡ true) where
+    pub tidy_given : TidyWords w
+    tidy_given = tidy-holds w laid_given tidied
 
-    module _ (so : not a ≡ false) where
-      tidy-true : tidy w ≡ true
-      tidy-true = sym tidied ∙ not-false a so
+    module _ (walked : tree_rules (store_of w) ≡ true) where
+      pub tree_given : Trusted w
+      unfolding tree_rules
+      tree_given =
+          let t = tidy_given in
+          let r = each _ walked in
+          record {
+            tidy = t.same;
+            given =
+                record {
+                  sizes = sizes_in_range-holds _ _ _ (sizes_there w sizes);
+                  header = t.header;
+                  pages = t.pages;
+                  memo = t.memo;
+                  boards = t.boards;
+                  rule1 = rule1-holds _ r.0;
+                  rule2 = rule2-holds _ r.1.0;
+                  rule3 = rule3-holds _ r.1.1.0;
+                };
+          }
 
-      pub tidy_given : TidyWords w
-      tidy_given = tidy-holds w laid_given tidy-true
-
-      module _ (b : Bool) (walked : b ≡ tree_rules (store_of w)) where
-        pub tree_off : not b ≡ true → false ≡ sound_words w
-        tree_off f = sym (sound-parts w sizes ∙ rw (tidy-true, sym walked ∙ not-true b f))
-
-        module _ (too : not b ≡ false) where
-          tree_true : tree_rules (store_of w) ≡ true
-          tree_true = sym walked ∙ not-false b too
-
-          pub tree_given : Trusted w
-          unfolding tree_rules
-          tree_given =
-              let t = tidy_given in
-              let r = each _ tree_true in
-              record {
-                tidy = t.same;
-                given =
-                    record {
-                      sizes = sizes_in_range-holds _ _ _ (sizes_there w sizes);
-                      header = t.header;
-                      pages = t.pages;
-                      memo = t.memo;
-                      boards = t.boards;
-                      rule1 = rule1-holds _ r.0;
-                      rule2 = rule2-holds _ r.1.0;
-                      rule3 = rule3-holds _ r.1.1.0;
-                    };
-              }
-
-          module _ (c : Bool) (gone : c ≡ entries_rules (store_of w)) where
-            pub entries_off : not c ≡ true → false ≡ sound_words w
-            entries_off f = sym (sound-parts w sizes ∙ rw (tidy-true, tree_true, sym gone ∙ not-true c f))
-
-            module _ (also-so : not c ≡ false) where
-              entries-true : entries_rules (store_of w) ≡ true
-              entries-true = sym gone ∙ not-false c also-so
-
-              pub entries_given : Searchable w
-              entries_given =
-                  let g = tree_given.given in
-                  let r = each _ entries-true in
-                  record {
-                    written = tree_given.tidy;
-                    ranges =
-                        record {
-                          sizes = g.sizes;
-                          header = g.header;
-                          pages = g.pages;
-                          entries = every_holds _ _ entry_in_range-holds r.0;
-                          memo = g.memo;
-                          boards = g.boards;
-                        };
-                    leaves = g.rule1.leaves;
-                    rule3 = g.rule3;
-                    rule4 = rule4-holds _ r.1.0;
-                    rule5 = rule5-holds _ r.1.1.0;
-                  }
-
-              pub boards_last : (d : Bool) → d ≡ rule8 (store_of w) → d ≡ sound_words w
-              boards_last d e = e ∙ sym (sound-parts w sizes ∙ rw (tidy-true, tree_true, entries-true))
+      pub entries_given : entries_rules (store_of w) ≡ true → Searchable w
+      entries_given gone =
+          let g = tree_given.given in
+          let r = each _ gone in
+          record {
+            written = tree_given.tidy;
+            ranges =
+                record {
+                  sizes = g.sizes;
+                  header = g.header;
+                  pages = g.pages;
+                  entries = every_holds _ _ entry_in_range-holds r.0;
+                  memo = g.memo;
+                  boards = g.boards;
+                };
+            leaves = g.rule1.leaves;
+            rule3 = g.rule3;
+            rule4 = rule4-holds _ r.1.0;
+            rule5 = rule5-holds _ r.1.1.0;
+          }

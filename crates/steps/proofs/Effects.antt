@@ -16,18 +16,16 @@ use Rattle.rules.specs.declared.Box.{Box}
 use Rattle.rules.specs.declared.Window.{Window}
 use Rattle.rules.specs.declared.Entry.{Entry}
 use Rattle.rules.specs.declared.Row.{Row}
-use Rattle.rules.specs.declared.Step.{Step}
 use Rattle.rules.specs.declared.LookUp.{LookUp}
 use Rattle.rules.specs.declared.LookUp.TheVariants.{Absent, Found as At}
 use Rattle.rules.specs.Lists.{some_one}
 use Rattle.rules.specs.Store.{Board, Store, limit, stamp, closed, store_of}
 use Rattle.rules.specs.Memo.{look_up, is_absent, noted}
-use Rattle.rules.specs.Live.{rows_in}
 use Rattle.rules.specs.Tree.{Tree, tree_of, put_at}
 use Rattle.rules.specs.Cleaning.{smallest_mark}
 use Rattle.rules.specs.Boards.{is_open, lists, told, untold, overfull, touched, opened}
 use Rattle.rules.specs.Sound.{sound, sound_words}
-use Rattle.rules.specs.Steps.{its_train, reported_box, reported_row, its_window, report, withdraw, inspect, open_board, close_board}
+use Rattle.rules.specs.Steps.{report, withdraw, inspect, open_board, close_board}
 use Rattle.rules.specs.Views.{ProperBox, sound-holds}
 use Rattle.rules.specs.laws.All.{All, all_map}
 use Rattle.rules.specs.laws.Counts.{count_left}
@@ -41,6 +39,7 @@ use Rattle.query.specs.Keys.{row_of_key, Found}
 use Rattle.parts.specs.InOrder.{Lent, Became}
 use Rattle.parts.specs.Promises.{no_slot_left, Freed, ToldAll}
 use Rattle.parts.specs.Laws.{became_lent, became_then, next_became, grown_became}
+use Rattle.steps.specs.Orders.{report_step, withdraw_step, open_step, close_step}
 use Rattle.steps.specs.Stepping.{sound_given, Effected, StampTaken}
 
 -- what is lent is sound
@@ -91,7 +90,7 @@ told_then : {s : Store} {w w' : List ℕ} {n : ℕ} (tell : Board → Board) (t 
 told_then tell t a b = rw a.stored at b
 
 -- ---- a report
-module _ (w : List ℕ) (x : Step) (e : sound_words w ≡ true) (allowed : AcceptedReport (store_of w) x) (b : Box) (its : b ≡ reported_box x) (w₁ : List ℕ) (r : Stamp) (h : StampTaken (store_of w) (its_train x) w₁ r) where
+module _ (w : List ℕ) (t : Train) (b : Box) (e : sound_words w ≡ true) (allowed : AcceptedReport (store_of w) (report_step t b)) (w₁ : List ℕ) (r : Stamp) (h : StampTaken (store_of w) t w₁ r) where
   abbrev s : Store
   s = store_of w
 
@@ -105,54 +104,53 @@ module _ (w : List ℕ) (x : Step) (e : sound_words w ≡ true) (allowed : Accep
   levels_most = omega (arith, same_levels, (sound-holds s (sound_lent_store w e)).ranges.header.levels_most)
 
   pub put_proper : ProperBox b
-  put_proper = rw its allowed.proper
+  put_proper = allowed.proper
 
   -- the entry that is put in, and the row that the boards are told of
-  abbrev entry : Box → Stamp → Entry
-  entry c z = record { bounds = c; key = x.a; stamp = z }
+  abbrev entry : Stamp → Entry
+  entry z = record { bounds = b; key = t.0; stamp = z }
 
-  abbrev row : Box → Row
-  row c = record { train = its_train x; bounds = c }
+  abbrev row : Row
+  row = record { train = t; bounds = b }
 
   -- the boards find the store in order, whatever was put in
-  module _ (t : Tree) (w₂ : List ℕ) (g : Grown (length (store_of w₁).pages) w₁ t w₂) where
-    grown : Became (with_tree (store_of w₁) t) w₂
+  module _ (u : Tree) (w₂ : List ℕ) (g : Grown (length (store_of w₁).pages) w₁ u w₂) where
+    grown : Became (with_tree (store_of w₁) u) w₂
     grown = grown_became (became_lent h.became) g
 
     pub put_lent : Lent w₂
     put_lent = became_lent grown
 
-    pub none_overfull : some_one (overfull (row b)) (store_of w₂).boards ≡ false
+    pub none_overfull : some_one (overfull row) (store_of w₂).boards ≡ false
     unfolding overfull
     none_overfull =
         let q : (store_of w₂).boards ≡ s.boards = ap (λ u. u.boards) grown.stored ∙ ap (λ u. u.boards) h.became.stored in
-        rw (its, q) (no_one _ (all_map allowed.rows_room λ b k. le-ltb _ _ k))
+        rw q (no_one _ (all_map allowed.rows_room λ b k. le-ltb _ _ k))
 
-    pub report_fits : (w₃ : List ℕ) (n : ℕ) → ToldAll (told (row b)) (its_train x) (store_of w₂) w₃ n → Number w32 n
-    report_fits w₃ n c = few_boards (its_train x) (told (row b)) (store_of w₂).boards put_lent.order.sizes.boards_most n c.counted
+    pub report_fits : (w₃ : List ℕ) (n : ℕ) → ToldAll (told row) t (store_of w₂) w₃ n → Number w32 n
+    report_fits w₃ n c = few_boards t (told row) (store_of w₂).boards put_lent.order.sizes.boards_most n c.counted
 
-  module _ (w₂ : List ℕ) (g : Grown (length (store_of w₁).pages) w₁ (put_at 1 (entry b r) (tree_of (store_of w₁))) w₂) where
+  module _ (w₂ : List ℕ) (g : Grown (length (store_of w₁).pages) w₁ (put_at 1 (entry r) (tree_of (store_of w₁))) w₂) where
     abbrev taken : Store
-    taken = stamped s (its_train x) (tree_of s) s.boards
+    taken = stamped s t (tree_of s) s.boards
 
-    put_became : Became (with_tree taken (put_at 1 (entry (reported_box x) s.next) (tree_of s))) w₂
+    put_became : Became (with_tree taken (put_at 1 (entry s.next) (tree_of s))) w₂
     put_became =
-        subst (λ z. Became (with_tree taken (put_at 1 (entry (reported_box x) z) (tree_of s))) w₂) h.taken
-        (became_then (λ u. with_tree u (put_at 1 (entry (reported_box x) r) (tree_of u))) h.became (grown_became (became_lent h.became) (rw its at g)))
+        subst (λ z. Became (with_tree taken (put_at 1 (entry z) (tree_of s))) w₂) h.taken
+        (became_then (λ u. with_tree u (put_at 1 (entry r) (tree_of u))) h.became (grown_became (became_lent h.became) g))
 
-    pub report-effect : (w₃ : List ℕ) (n : ℕ) → ToldAll (told (row b)) (its_train x) (store_of w₂) w₃ n → Effected (report s x) w₃ n
+    pub report-effect : (w₃ : List ℕ) (n : ℕ) → ToldAll (told row) t (store_of w₂) w₃ n → Effected (report s (report_step t b)) w₃ n
     unfolding report
-    report-effect w₃ n c = told_then (told (reported_row x)) (its_train x) put_became (rw its at c)
+    report-effect w₃ n c = told_then (told row) t put_became c
 
 -- ---- a withdrawal
-module _ (w : List ℕ) (x : Step) (w₁ : List ℕ) (r : Stamp) (h : StampTaken (store_of w) (its_train x) w₁ r)
-    (w₂ : List ℕ) (n : ℕ) (c : ToldAll (untold (its_train x)) (its_train x) (store_of w₁) w₂ n) where
+module _ (w : List ℕ) (t : Train) (w₁ : List ℕ) (r : Stamp) (h : StampTaken (store_of w) t w₁ r) (w₂ : List ℕ) (n : ℕ) (c : ToldAll (untold t) t (store_of w₁) w₂ n) where
   pub withdraw_fits : Number w32 n
-  withdraw_fits = few_boards (its_train x) (untold (its_train x)) (store_of w₁).boards (became_lent h.became).order.sizes.boards_most n c.counted
+  withdraw_fits = few_boards t (untold t) (store_of w₁).boards (became_lent h.became).order.sizes.boards_most n c.counted
 
-  pub withdraw-effect : Effected (withdraw (store_of w) x) w₂ n
+  pub withdraw-effect : Effected (withdraw (store_of w) (withdraw_step t)) w₂ n
   unfolding withdraw
-  withdraw-effect = told_then (untold (its_train x)) (its_train x) h.became c
+  withdraw-effect = told_then (untold t) t h.became c
 
 -- ---- inspecting
 module _ (w : List ℕ) (l : Lent w) (w' : List ℕ) (r : ℕ) (h : Freed (smallest_mark (store_of w).pages) (store_of w) w' r) where
@@ -164,15 +162,12 @@ module _ (w : List ℕ) (l : Lent w) (w' : List ℕ) (r : ℕ) (h : Freed (small
   inspect-effect = h
 
 -- ---- a board opened or closed
-pub close_effect : (w : List ℕ) (x : Step) (w' : List ℕ) → Became (with_boards (store_of w) (set (store_of w).boards x.a closed)) w' → Effected (close_board (store_of w) x) w' 0
+pub close_effect : (w : List ℕ) (i : ℕ) (w' : List ℕ) → Became (with_boards (store_of w) (set (store_of w).boards i closed)) w' → Effected (close_board (store_of w) (close_step i)) w' 0
 unfolding close_board
-close_effect w x w' b = record { became = b; counted = refl }
+close_effect w i w' b = record { became = b; counted = refl }
 
-module _ (w : List ℕ) (x : Step) (z : Window) (its : z ≡ its_window x) (keys work : List ℕ) (n : ℕ) (keys' work' : List ℕ) (f : Found (store_of w) z keys work n keys' work') where
-  pub rows_many : n ≡ length (rows_in (store_of w) (its_window x))
-  rows_many = rw its at f.many
-
-  pub open_effect : (w' : List ℕ) → Became (with_boards (store_of w) (set (store_of w).boards x.a (opened z (map (row_of_key (store_of w).pages) (take n keys'))))) w'
-      → Effected (open_board (store_of w) x) w' n
+module _ (w : List ℕ) (i : ℕ) (v : Window) (keys work : List ℕ) (n : ℕ) (keys' work' : List ℕ) (f : Found (store_of w) v keys work n keys' work') where
+  pub open_effect : (w' : List ℕ) → Became (with_boards (store_of w) (set (store_of w).boards i (opened v (map (row_of_key (store_of w).pages) (take n keys'))))) w'
+      → Effected (open_board (store_of w) (open_step i v)) w' n
   unfolding open_board
-  open_effect w' b = record { became = rw (f.rows, its) at b; counted = rows_many }
+  open_effect w' b = record { became = rw f.rows at b; counted = f.many }

@@ -1,5 +1,3 @@
-pub mod Form
-pub mod Tests
 pub mod Entries
 pub mod Effects
 pub mod Cleaned

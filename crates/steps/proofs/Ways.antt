@@ -1,148 +1,149 @@
--- What each way out of a step of each kind says of the whole step. Assumes nothing.
-use Prim.Native.Nat.{ℕ, ◌+◌, ◌-◌, ◌≤◌, ◌<◌}
-use native.Mathlib.Omega.{arith}
-use mathlib.Core.Path.{◌≡◌, refl, sym, ◌∙◌, ap, subst}
-use mathlib.Core.Bool.{Bool, true, false, not}
-use mathlib.Core.List.{List}
-use mir.Syntax.{w64}
-use mir.Val.{Fits as Number}
-use lib.Dec.{eqb, ltb}
-use lib.ListN.{length}
-use borrow.Author.Tests.{lt-ltb, le-ltb, eqb-true, eqb-false, not-true, not-false}
+-- What each way out of a step of each kind says of the whole step.
+use Rattle.std.specs.Prelude.{ℕ, ◌+◌, ◌-◌, ◌≤◌, ◌<◌, ◌≡◌, refl, true, false, List, length, ltb, Result, Ok, Err, IsErr, IsErrAnd}
+use Rattle.std.proofs.Common.{arith, sym, ◌∙◌, Fits as Number}
+use Rattle.std.specs.Int.{w64}
+use borrow.Author.Tests.{lt-ltb, le-ltb}
+use Rattle.rules.specs.declared.Train.{Train}
+use Rattle.rules.specs.declared.Box.{Box}
+use Rattle.rules.specs.declared.Window.{Window}
 use Rattle.rules.specs.declared.Step.{Step}
-use Rattle.rules.specs.Store.{Store, row_limit, store_of}
-use Rattle.rules.specs.Live.{held, rows_in}
+use Rattle.rules.specs.declared.refusal.Refusal.{Refusal}
+use Rattle.rules.specs.declared.refusal.Refusal.TheVariants.{OutOfForm, TooManyRows}
+use Rattle.rules.specs.Store.{row_limit, store_of}
+use Rattle.rules.specs.Live.{rows_in}
 use Rattle.rules.specs.Numbers.{first_met}
-use Rattle.rules.specs.Steps.{its_train, its_window, in_form, refusal, report, withdraw, clean, inspect, open_board, close_board, effect, step}
+use Rattle.rules.specs.Refused.{number_of, answer_number, answer_count}
+use Rattle.rules.specs.Steps.{in_form, refusal, report, withdraw, clean, inspect, open_board, close_board, effect, step}
 use Rattle.rules.specs.Views.{sound-holds}
-use Rattle.rules.specs.laws.Tests.{not_both}
 use Rattle.rules.specs.laws.Numbers.{met_first, none_met}
 use Rattle.theorems.specs.Accepted.{TakesStamp, AcceptedReport, accepted_report, accepted_withdrawal, accepted_opening, accepted_closing}
-use Rattle.theorems.specs.EveryStep.{no_kind, clean_accepted, inspect_accepted}
-use Rattle.steps.specs.declared.Outcome.{Outcome}
-use Rattle.steps.specs.Refusals.{report_tests, withdraw_tests, opening_tests, rows_test, close_tests, out_of_form, report-refusal, withdraw-refusal, open_refusal, close_refusal}
-use Rattle.steps.specs.Stepping.{Given, Effected, Stepped, stepped_refused, stepped_accepted}
+use Rattle.theorems.specs.EveryStep.{clean_accepted, inspect_accepted}
+use Rattle.steps.specs.declared.order.Order.TheVariants.{Report, Withdraw, Clean, Inspect, Open, Close}
+use Rattle.steps.specs.Orders.{report_step, withdraw_step, clean_step, inspect_step, open_step, close_step, order_given}
+use Rattle.steps.specs.Refusals.{report_tests, withdraw_tests, opening_tests, rows_test, close_tests, numbered, handed_on, out_of_form, report-refusal, withdraw-refusal, open_refusal, close_refusal}
+use Rattle.steps.specs.Stepping.{Given, Effected, Stepped, KeepsHeld, stepped_refused, stepped_accepted}
 use Rattle.steps.proofs.Entries.{report-entries, withdraw-entries, clean-entries, inspect-entries, open_entries, close_entries}
 
-module _ (w : List ℕ) (n : ℕ) (x : Step) (g : Given w n) (formed : in_form x ≡ true) where
-  abbrev s : Store
-  s = store_of w
+-- ---- a step that is refused with e, which `?` hands on as r
+pub refused_as : (w : List ℕ) (x : Step) (e : Refusal) → number_of e ≡ refusal (store_of w) x → KeepsHeld w x w (number_of e) 0
+refused_as w x e h n g = stepped_refused w n x g (number_of e) h (numbered e)
 
-  -- what is answered where a step is refused with m, and where it is accepted and leaves w'
-  abbrev Refused : ℕ → Type 0
-  Refused m = (o : Outcome) → o ≡ record { number = m; count = 0; held = n } → Stepped (step s x) w o
+pub refused_by : (w : List ℕ) (x : Step) (r : Result ℕ Refusal) (e : Refusal) → IsErr r × IsErrAnd r (λ f. f ≡ e) → number_of e ≡ refusal (store_of w) x
+    → KeepsHeld w x w (answer_number r) (answer_count r)
+refused_by w x r e h m = rw (handed_on r e h) (refused_as w x e m)
 
-  abbrev Accepted : List ℕ → ℕ → ℕ → Type 0
-  Accepted w' c h = Stepped (step s x) w' (record { number = 0; count = c; held = h })
+pub form_refused : (w : List ℕ) (x : Step) (e : Refusal) → (in_form x ≡ false) × (e ≡ OutOfForm) → number_of e ≡ refusal (store_of w) x
+form_refused w x e h = rw h.1 (sym (out_of_form (store_of w) x h.0))
 
-  refused_by : (m : ℕ) → m ≡ refusal s x → (m ≡ 0 → ⊥) → Refused m
-  refused_by m e h o q = rw q (stepped_refused w n x g m e h)
+-- ---- a report
+module _ (w : List ℕ) (t : Train) (b : Box) where
+  report_number : refusal (store_of w) (report_step t b) ≡ first_met (report_tests (store_of w) (report_step t b))
+  report_number = report-refusal (store_of w) (report_step t b) (order_given (Report t b)) refl
 
-  -- one entry more can be counted
-  pub more_fits : Number w64 (n + 1)
-  more_fits =
-      let S = sound-holds s g.sound in
-      record { fits = omega (arith, g.counted, S.rule4.held_most, S.ranges.sizes.pages_most) }
+  pub report_refused : (e : Refusal) → number_of e ≡ first_met (report_tests (store_of w) (report_step t b)) → number_of e ≡ refusal (store_of w) (report_step t b)
+  report_refused e h = h ∙ sym report_number
 
-  -- an accepted step has the effect of its kind
-  accepted_by : (k : ℕ) → x.kind ≡ k → refusal s x ≡ 0 → (w' : List ℕ) (c h : ℕ) → Effected (effect k s x) w' c
-      → h ≡ length (held (effect k s x).store) → Accepted w' c h
-  accepted_by k e a w' c h f l =
-      stepped_accepted s x w' c h a (subst (λ j. Effected (effect j s x) w' c) (sym e) f) (l ∙ ap (λ j. length (held (effect j s x).store)) (sym e))
+  module _ (n : ℕ) (g : Given w n) (z : 0 ≡ first_met (report_tests (store_of w) (report_step t b))) where
+    report_none : refusal (store_of w) (report_step t b) ≡ 0
+    report_none = report_number ∙ sym z
 
-  module _ (k : x.kind ≡ 1) (m : ℕ) (tried : m ≡ first_met (report_tests s x)) where
-    report_number : m ≡ refusal s x
-    report_number = tried ∙ sym (report-refusal s x formed k)
+    pub report_accepted : AcceptedReport (store_of w) (report_step t b)
+    report_accepted = accepted_report (store_of w) (report_step t b) report_none refl
 
-    pub report_refused : (m ≡ 0 → ⊥) → Refused m
-    report_refused h = refused_by m report_number h
+    pub report-done : (w' : List ℕ) (c : ℕ) → Effected (report (store_of w) (report_step t b)) w' c → Stepped (step (store_of w) (report_step t b)) w' 0 c (n + 1)
+    unfolding effect
+    report-done w' c e =
+        stepped_accepted (store_of w) (report_step t b) w' c (n + 1) report_none e (report-entries (store_of w) (report_step t b) n g.sound g.counted refl report_none)
 
-    module _ (z : m ≡ 0) where
-      pub report_allowed : AcceptedReport s x
-      report_allowed = accepted_report s x (sym report_number ∙ z) k
+-- one entry more can be counted
+pub more_fits : (w : List ℕ) (n : ℕ) → Given w n → Number w64 (n + 1)
+more_fits w n g =
+    let S = sound-holds (store_of w) g.sound in
+    record { fits = omega (arith, g.counted, S.rule4.held_most, S.ranges.sizes.pages_most) }
 
-      pub report-done : (w' : List ℕ) (c : ℕ) → Effected (report s x) w' c → Accepted w' c (n + 1)
-      unfolding effect
-      report-done w' c e = let a = sym report_number ∙ z in accepted_by 1 k a w' c (n + 1) e (report-entries s x n g.sound g.counted k a)
+-- ---- a withdrawal
+module _ (w : List ℕ) (t : Train) where
+  withdraw_number : refusal (store_of w) (withdraw_step t) ≡ first_met (withdraw_tests (store_of w) (withdraw_step t))
+  withdraw_number = withdraw-refusal (store_of w) (withdraw_step t) (order_given (Withdraw t)) refl
 
-  module _ (k : x.kind ≡ 2) (m : ℕ) (tried : m ≡ first_met (withdraw_tests s x)) where
-    withdraw_number : m ≡ refusal s x
-    withdraw_number = tried ∙ sym (withdraw-refusal s x formed k)
+  pub withdraw_refused : (e : Refusal) → number_of e ≡ first_met (withdraw_tests (store_of w) (withdraw_step t)) → number_of e ≡ refusal (store_of w) (withdraw_step t)
+  withdraw_refused e h = h ∙ sym withdraw_number
 
-    pub withdraw_refused : (m ≡ 0 → ⊥) → Refused m
-    withdraw_refused h = refused_by m withdraw_number h
+  module _ (z : 0 ≡ first_met (withdraw_tests (store_of w) (withdraw_step t))) where
+    withdraw_none : refusal (store_of w) (withdraw_step t) ≡ 0
+    withdraw_none = withdraw_number ∙ sym z
 
-    module _ (z : m ≡ 0) where
-      pub withdraw-stamped : TakesStamp s (its_train x)
-      withdraw-stamped = (accepted_withdrawal s x (sym withdraw_number ∙ z) k).stamped
+    pub withdraw-stamped : TakesStamp (store_of w) t
+    withdraw-stamped = (accepted_withdrawal (store_of w) (withdraw_step t) withdraw_none refl).stamped
 
-      pub withdraw-done : (w' : List ℕ) (c : ℕ) → Effected (withdraw s x) w' c → Accepted w' c n
-      unfolding effect
-      withdraw-done w' c e = let a = sym withdraw_number ∙ z in accepted_by 2 k a w' c n e (withdraw-entries s x n g.sound g.counted k a)
+    pub withdraw-done : (w' : List ℕ) (c : ℕ) → Effected (withdraw (store_of w) (withdraw_step t)) w' c → KeepsHeld w (withdraw_step t) w' 0 c
+    unfolding effect
+    withdraw-done w' c e n g =
+        stepped_accepted (store_of w) (withdraw_step t) w' c n withdraw_none e (withdraw-entries (store_of w) (withdraw_step t) n g.sound g.counted refl withdraw_none)
 
-  pub clean-done : x.kind ≡ 3 → (w' : List ℕ) (c : ℕ) → Effected (clean s) w' c → Accepted w' c (n - c)
-  unfolding effect
-  clean-done k w' c e = accepted_by 3 k (clean_accepted s x k formed) w' c (n - c) e (clean-entries s x n g.sound g.counted c e.counted)
+-- ---- a clean and an inspection, which are never refused
+pub clean-done : (w : List ℕ) (n : ℕ) → Given w n → (w' : List ℕ) (c : ℕ) → Effected (clean (store_of w)) w' c → Stepped (step (store_of w) clean_step) w' 0 c (n - c)
+unfolding effect
+clean-done w n g w' c e =
+    stepped_accepted (store_of w) clean_step w' c (n - c) (clean_accepted (store_of w) clean_step refl (order_given Clean)) e
+    (clean-entries (store_of w) clean_step n g.sound g.counted c e.counted)
 
-  pub inspect-done : x.kind ≡ 4 → (w' : List ℕ) (c : ℕ) → Effected (inspect s) w' c → Accepted w' c n
-  unfolding effect
-  inspect-done k w' c e = accepted_by 4 k (inspect_accepted s x k formed) w' c n e (inspect-entries s x n g.sound g.counted)
+pub inspect-done : (w w' : List ℕ) (c : ℕ) → Effected (inspect (store_of w)) w' c → KeepsHeld w inspect_step w' 0 c
+unfolding effect
+inspect-done w w' c e n g =
+    stepped_accepted (store_of w) inspect_step w' c n (inspect_accepted (store_of w) inspect_step refl (order_given Inspect)) e
+    (inspect-entries (store_of w) inspect_step n g.sound g.counted)
 
-  module _ (k : x.kind ≡ 5) (m : ℕ) (tried : m ≡ first_met (opening_tests s x)) where
-    pub open_refused : (m ≡ 0 → ⊥) → Refused m
-    open_refused h =
-        refused_by m (tried ∙ sym (met_first (opening_tests s x) (rows_test s x) λ z. h (tried ∙ z)) ∙ sym (open_refusal s x formed k)) h
+-- ---- an opening: the rows are counted last
+module _ (w : List ℕ) (i : ℕ) (v : Window) where
+  pub open_refused : (e : Refusal) → number_of e ≡ first_met (opening_tests (store_of w) (open_step i v)) → number_of e ≡ refusal (store_of w) (open_step i v)
+  open_refused e h =
+      h ∙ sym (met_first (opening_tests (store_of w) (open_step i v)) (rows_test (store_of w) (open_step i v)) λ z. numbered e (h ∙ z))
+      ∙ sym (open_refusal (store_of w) (open_step i v) (order_given (Open i v)) refl)
 
-    module _ (z : m ≡ 0) (r : ℕ) (many : r ≡ length (rows_in s (its_window x))) where
-      open_number : refusal s x ≡ first_met (rows_test s x)
-      open_number = open_refusal s x formed k ∙ none_met (opening_tests s x) (rows_test s x) (omega arith) (sym tried ∙ z)
+  module _ (z : 0 ≡ first_met (opening_tests (store_of w) (open_step i v))) (r : ℕ) (many : r ≡ length (rows_in (store_of w) v)) where
+    open_number : refusal (store_of w) (open_step i v) ≡ first_met (rows_test (store_of w) (open_step i v))
+    open_number =
+        open_refusal (store_of w) (open_step i v) (order_given (Open i v)) refl
+        ∙ none_met (opening_tests (store_of w) (open_step i v)) (rows_test (store_of w) (open_step i v)) (omega arith) (sym z)
 
-      pub open_overfull : 16 < r → Refused 14
+    pub open_overfull : 16 < r → KeepsHeld w (open_step i v) w 14 0
+    unfolding first_met
+    open_overfull h =
+        let f : ltb row_limit (length (rows_in (store_of w) v)) ≡ true = lt-ltb row_limit (length (rows_in (store_of w) v)) (omega arith) in
+        refused_as w (open_step i v) TooManyRows (sym (open_number ∙ rw f))
+
+    module _ (few : r ≤ 16) where
+      open_none : refusal (store_of w) (open_step i v) ≡ 0
       unfolding first_met
-      open_overfull h =
-          let f : ltb row_limit (length (rows_in s (its_window x))) ≡ true = lt-ltb row_limit (length (rows_in s (its_window x))) (omega arith) in
-          refused_by 14 (sym (open_number ∙ rw f)) λ z. omega arith
+      open_none =
+          let f : ltb row_limit (length (rows_in (store_of w) v)) ≡ false = le-ltb row_limit (length (rows_in (store_of w) v)) (omega arith) in
+          open_number ∙ rw f
 
-      module _ (few : r ≤ 16) where
-        open_accepted : refusal s x ≡ 0
-        unfolding first_met
-        open_accepted =
-            let f : ltb row_limit (length (rows_in s (its_window x))) ≡ false = le-ltb row_limit (length (rows_in s (its_window x))) (omega arith) in
-            open_number ∙ rw f
+      pub open_inside : i < length (store_of w).boards
+      open_inside = (accepted_opening (store_of w) (open_step i v) open_none refl).board
 
-        pub open_inside : x.a < length s.boards
-        open_inside = (accepted_opening s x open_accepted k).board
-
-        pub open_done : (w' : List ℕ) (c : ℕ) → Effected (open_board s x) w' c → Accepted w' c n
-        unfolding effect
-        open_done w' c e = accepted_by 5 k open_accepted w' c n e (open_entries s x n g.sound g.counted k open_accepted)
-
-  module _ (k : x.kind ≡ 6) (m : ℕ) (tried : m ≡ first_met (close_tests s x)) where
-    close_number : m ≡ refusal s x
-    close_number = tried ∙ sym (close_refusal s x formed k)
-
-    pub close_refused : (m ≡ 0 → ⊥) → Refused m
-    close_refused h = refused_by m close_number h
-
-    module _ (z : m ≡ 0) where
-      pub close_inside : x.a < length s.boards
-      close_inside = (accepted_closing s x (sym close_number ∙ z) k).board
-
-      pub close_done : (w' : List ℕ) (c : ℕ) → Effected (close_board s x) w' c → Accepted w' c n
+      pub open_done : (w' : List ℕ) (c : ℕ) → Effected (open_board (store_of w) (open_step i v)) w' c → KeepsHeld w (open_step i v) w' 0 c
       unfolding effect
-      close_done w' c e = let a = sym close_number ∙ z in accepted_by 6 k a w' c n e (close_entries s x n g.sound g.counted k a)
+      open_done w' c e n g =
+          stepped_accepted (store_of w) (open_step i v) w' c n open_none e (open_entries (store_of w) (open_step i v) n g.sound g.counted refl open_none)
 
--- ---- a step of whatever kind
-module _ (x : Step) (b : Bool) (tested : b ≡ in_form x) where
-  pub form_true : not b ≡ false → in_form x ≡ true
-  form_true h = sym tested ∙ not-false b h
+-- ---- a closing
+module _ (w : List ℕ) (i : ℕ) where
+  close_number : refusal (store_of w) (close_step i) ≡ first_met (close_tests (store_of w) (close_step i))
+  close_number = close_refusal (store_of w) (close_step i) (order_given (Close i)) refl
 
-  pub last_kind : not b ≡ false → (x.kind ≡ 1 → ⊥) → (x.kind ≡ 2 → ⊥) → (x.kind ≡ 3 → ⊥) → (x.kind ≡ 4 → ⊥) → (x.kind ≡ 5 → ⊥) → x.kind ≡ 6
-  last_kind h k₁ k₂ k₃ k₄ k₅ = go (eqb x.kind 6) refl
-    where
-      go : (t : Bool) → eqb x.kind 6 ≡ t → x.kind ≡ 6
-      go true e = eqb-true _ _ e
-      go false e = absurd (not_both (in_form x) (form_true h) (no_kind x λ low high. omega (arith, eqb-false x.kind 6 e)))
+  pub close_refused : (e : Refusal) → number_of e ≡ first_met (close_tests (store_of w) (close_step i)) → number_of e ≡ refusal (store_of w) (close_step i)
+  close_refused e h = h ∙ sym close_number
 
-  pub form_refused : (w : List ℕ) (n : ℕ) → Given w n → not b ≡ true → (o : Outcome) → o ≡ record { number = 6; count = 0; held = n } → Stepped (step (store_of w) x) w o
-  form_refused w n g h o q = rw q (stepped_refused w n x g 6 (sym (out_of_form (store_of w) x (sym tested ∙ not-true b h))) λ z. omega arith)
+  module _ (z : 0 ≡ first_met (close_tests (store_of w) (close_step i))) where
+    close_none : refusal (store_of w) (close_step i) ≡ 0
+    close_none = close_number ∙ sym z
+
+    pub close_inside : i < length (store_of w).boards
+    close_inside = (accepted_closing (store_of w) (close_step i) close_none refl).board
+
+    pub close_done : (w' : List ℕ) → Effected (close_board (store_of w) (close_step i)) w' 0 → KeepsHeld w (close_step i) w' 0 0
+    unfolding effect
+    close_done w' e n g =
+        stepped_accepted (store_of w) (close_step i) w' 0 n close_none e (close_entries (store_of w) (close_step i) n g.sound g.counted refl close_none)

@@ -1,5 +1,6 @@
 -- What a step of each kind can be refused with: of the tests in the table, those that its kind can meet.
-use Rattle.std.specs.Prelude.{◌*◌, ◌≡◌, true, false, not, List, [], ◌∷◌, ◌++◌, eqb, leb, ltb, length}
+use Rattle.std.specs.Prelude.{◌*◌, ◌≡◌, true, false, not, List, [], ◌∷◌, ◌++◌, eqb, leb, ltb, length, Result, Ok, Err, IsErr, IsErrAnd}
+use Rattle.std.proofs.Common.{arith, ap}
 use Rattle.std.proofs.Math.Bool.{or-false}
 use Rattle.rules.specs.declared.Step.{Step}
 use Rattle.rules.specs.Lists.{some_one}
@@ -7,6 +8,8 @@ use Rattle.rules.specs.Boxes.{proper_box, proper_window}
 use Rattle.rules.specs.Store.{Store, limit, row_limit, board_at}
 use Rattle.rules.specs.Live.{held, rows_in}
 use Rattle.rules.specs.Boards.{is_open, overfull}
+use Rattle.rules.specs.declared.refusal.Refusal.{Refusal as Reason}
+use Rattle.rules.specs.Refused.{number_of}
 use Rattle.rules.specs.Numbers.{Refusal, ◌when◌, first_met}
 use Rattle.rules.specs.Steps.{its_train, reported_box, reported_row, its_window, in_form, refusal}
 use Rattle.parts.specs.Promises.{no_slot_left}
@@ -34,6 +37,19 @@ rows_test s x = (14 when ltb row_limit (length (rows_in s (its_window x)))) ∷ 
 
 abbrev pub close_tests : Store → Step → List Refusal
 close_tests s x = (9 when leb (length s.boards) x.a) ∷ (10 when not (is_open (board_at s x.a))) ∷ []
+
+-- no refusal has the number of what is done
+pub numbered : (e : Reason) → number_of e ≡ 0 → ⊥
+numbered e = grind arith
+
+-- each has its own
+pub number_settles : (e f : Reason) → number_of e ≡ number_of f → e ≡ f
+number_settles e f h = grind arith
+
+-- a refusal that `?` hands on
+pub handed_on : {A : Type 0} (r : Result A Reason) (e : Reason) → IsErr r × IsErrAnd r (λ f. f ≡ e) → r ≡ Err e
+handed_on (Ok x) e h = absurd h.1
+handed_on (Err f) e h = ap Err h.1
 
 module _ (s : Store) (x : Step) where
   -- a step that isn't in form is refused with 6

@@ -16,7 +16,6 @@ use Rattle.theorems.specs.Stamped.{stamped}
 use Rattle.theorems.specs.StepKept.{step_accepted, step_refused}
 use Rattle.theorems.specs.EveryStep.{step-sound}
 use Rattle.parts.specs.InOrder.{Became, Counted}
-use Rattle.steps.specs.declared.Outcome.{Outcome}
 
 -- the words of a sound store, in whose tree n entries are held
 pub record Given (w : List ℕ) (n : ℕ) : Type 0 where
@@ -44,30 +43,34 @@ pub record StampTaken (s : Store) (t : Train) (w : List ℕ) (r : Stamp) : Type 
   pub taken : r ≡ s.next
 
 -- what a step does, accepted or refused: store, number and count are those of the rules, and the entries held are counted
-pub record Stepped (d : Done) (w : List ℕ) (r : Outcome) : Type 0 where
+pub record Stepped (d : Done) (w : List ℕ) (m c n : ℕ) : Type 0 where
   pub wrote : w ≡ words d.store
   pub stored : store_of w ≡ d.store
-  pub number : r.number ≡ d.number
-  pub count : r.count ≡ d.count
-  pub entries : r.held ≡ length (held d.store)
+  pub number : m ≡ d.number
+  pub count : c ≡ d.count
+  pub entries : n ≡ length (held d.store)
+
+-- what a step of the words w does that leaves the number of entries held as it is
+abbrev pub KeepsHeld : List ℕ → Step → List ℕ → ℕ → ℕ → Type 0
+KeepsHeld w x w' m c = (n : ℕ) → Given w n → Stepped (step (store_of w) x) w' m c n
 
 -- a refused step leaves all as it is
 pub stepped_refused : (w : List ℕ) (n : ℕ) (x : Step) → Given w n → (m : ℕ) → m ≡ refusal (store_of w) x → (m ≡ 0 → ⊥)
-    → Stepped (step (store_of w) x) w (record { number = m; count = 0; held = n })
+    → Stepped (step (store_of w) x) w m 0 n
 stepped_refused w n x g m e h =
-    subst (λ d. Stepped d w (record { number = m; count = 0; held = n })) (sym (step_refused (store_of w) x λ z. h (e ∙ z)))
+    subst (λ d. Stepped d w m 0 n) (sym (step_refused (store_of w) x λ z. h (e ∙ z)))
     (record { wrote = sym g.written; stored = refl; number = e; count = refl; entries = g.counted })
 
 -- an accepted one has its effect
 pub stepped_accepted : (s : Store) (x : Step) (w : List ℕ) (c n : ℕ) → refusal s x ≡ 0 → Effected (effect x.kind s x) w c
-    → n ≡ length (held (effect x.kind s x).store) → Stepped (step s x) w (record { number = 0; count = c; held = n })
+    → n ≡ length (held (effect x.kind s x).store) → Stepped (step s x) w 0 c n
 stepped_accepted s x w c n a e h =
-    subst (λ d. Stepped d w (record { number = 0; count = c; held = n })) (sym (step_accepted s x a))
+    subst (λ d. Stepped d w 0 c n) (sym (step_accepted s x a))
     (record { wrote = e.became.wrote; stored = e.became.stored; number = refl; count = e.counted; entries = h })
 
 -- the next step finds what this one asked for
-pub given_next : (w : List ℕ) (n : ℕ) (x : Step) → Given w n → (w' : List ℕ) (r : Outcome) → Stepped (step (store_of w) x) w' r → Given w' r.held
-given_next w n x g w' r t =
+pub given_next : (w : List ℕ) (n : ℕ) (x : Step) → Given w n → (w' : List ℕ) (m c n' : ℕ) → Stepped (step (store_of w) x) w' m c n' → Given w' n'
+given_next w n x g w' m c n' t =
     record {
       written = ap words t.stored ∙ sym t.wrote;
       sound = rw t.stored (step-sound (store_of w) x g.sound);

@@ -1,204 +1,129 @@
-// The steps: what each is refused with, what it does to the store, and the number and count that it writes.
+// The steps: what each is refused with, what it does to the store, and the count that it answers.
 #![tactic(auto)]
 
-ghost use Rattle.std.specs.Prelude.{◌≡◌, true, length};
+ghost use Rattle.std.specs.Prelude.{◌≡◌, true};
 ghost use Rattle.rules.specs.Store.{store_of};
 ghost use Rattle.rules.specs.Sound.{sound_words};
 ghost use Rattle.rules.specs.Numbers.{first_met};
+ghost use Rattle.rules.specs.Refused.{answer_number, answer_count};
 ghost use Rattle.rules.specs.Steps as rules;
 ghost use Rattle.theorems.specs.Accepted.{TakesStamp, AcceptedReport};
+ghost use Rattle.steps.specs.Orders.{report_step, withdraw_step, clean_step, inspect_step, open_step, close_step};
 ghost use Rattle.steps.specs.Refusals.{report_tests, withdraw_tests, opening_tests, close_tests};
-ghost use Rattle.steps.specs.Stepping.{Given, Effected, Stepped, StampTaken};
+ghost use Rattle.steps.specs.Stepping.{Given, Effected, Stepped, KeepsHeld, StampTaken};
 
+pub mod order;
+
+use order::Order;
+use rules::refusal::Refusal;
 use rules::{Box, Entry, Row, Stamp, Step, Train, Window};
 
-// What a step answers, its number and its count; and how many entries the tree holds after it.
-#[derive(Clone, Copy)]
-pub struct Outcome {
-    pub number: u32,
-    pub count: u32,
-    pub held: usize,
-}
+// The stamp that no step takes.
+const LAST: Stamp = Stamp(u32::MAX);
 
-// ---- a step's words
-
-// A step from its six words.
-pub fn step_of(x: &[u32]) -> Step
-    requires { length x.now ≡ 6 }
-    ensures { result ≡ rules.step_of x.now }
-{
-    Step {
-        kind: x[0],
-        a: x[1],
-        x0: x[2],
-        y0: x[3],
-        x1: x[4],
-        y1: x[5],
-    }
-}
-
-fn box_of(x: Step) -> Box
-    ensures { result ≡ rules.reported_box x }
-{
-    Box {
-        x0: x.x0,
-        y0: x.y0,
-        x1: x.x1,
-        y1: x.y1,
-    }
-}
-
-fn window_of(x: Step) -> Window
-    ensures { result ≡ rules.its_window x }
-{
-    Window {
-        x0: x.x0,
-        y0: x.y0,
-        x1: x.x1,
-        y1: x.y1,
-    }
-}
-
-// Words that are not named must be 0.
-fn four_zero(x: Step) -> bool
-    ensures { result ≡ rules.four_zero x }
-{
-    if x.x0 != 0 {
-        return false;
-    }
-    if x.y0 != 0 {
-        return false;
-    }
-    if x.x1 != 0 {
-        return false;
-    }
-    x.y1 == 0
-}
-
-// A kind that is known, and no word but those that it names.
-fn in_form(x: Step) -> bool
-    ensures { result ≡ rules.in_form x }
-{
-    let kind = x.kind;
-    match kind {
-        1 | 5 => true,
-        2 | 6 => four_zero(x),
-        3 | 4 => {
-            if x.a != 0 {
-                return false;
-            }
-            four_zero(x)
-        }
-        _ => false,
-    }
-}
-
-// ---- what a step is refused with, the lowest number first; 0 where it is accepted
+// ---- what a step is refused with, the lowest number first
 
 // How many entries are held is given, so that no pass over the pages counts them.
-fn report_number(store: &[u32], x: Step, held: usize) -> u32
+#[tactic(auto, using(std::proofs::lemmas::Bool::Decides::nat_tests, crate::specs::Tests::next_there, crate::specs::Tests::pages_there, crate::specs::Tests::given_long), unfolding(rules::specs::Numbers::first_met))]
+fn report_allowed(store: &[u32], train: Train, bounds: Box, held: usize) -> Result<(), Refusal>
     requires { Given store.now held }
-    ensures { result ≡ first_met (report_tests (store_of store.now) x) }
+    ensures { answer_number result ≡ first_met (report_tests (store_of store.now) (report_step train bounds)) }
 {
-    if x.a == 0 {
-        return 7;
+    if train == Train(0) {
+        return Err(Refusal::NoTrain);
     }
-    let bounds = box_of(x);
     if !boxes::proper_box(bounds) {
-        return 8;
+        return Err(Refusal::NotProper);
     }
-    let next = header::next_stamp(store);
-    if next.0 == 4294967295 {
-        return 11;
+    if header::next_stamp(store) == LAST {
+        return Err(Refusal::NoStampLeft);
     }
     if 3 * header::pages(store) <= held {
-        return 12;
+        return Err(Refusal::TooManyEntries);
     }
-    let train = Train(x.a);
     if parts::no_slot_left(store, train) {
-        return 13;
+        return Err(Refusal::NoSlotLeft);
     }
     if parts::any_overfull(store, Row { train, bounds }) {
-        return 14;
+        return Err(Refusal::TooManyRows);
     }
-    0
+    Ok(())
 }
 
-fn withdraw_number(store: &[u32], x: Step) -> u32
+#[tactic(auto, using(std::proofs::lemmas::Bool::Decides::nat_tests, crate::specs::Tests::next_there, crate::specs::Tests::sound_long), unfolding(rules::specs::Numbers::first_met))]
+fn withdraw_allowed(store: &[u32], train: Train) -> Result<(), Refusal>
     requires { sound_words store.now ≡ true }
-    ensures { result ≡ first_met (withdraw_tests (store_of store.now) x) }
+    ensures { answer_number result ≡ first_met (withdraw_tests (store_of store.now) (withdraw_step train)) }
 {
-    if x.a == 0 {
-        return 7;
+    if train == Train(0) {
+        return Err(Refusal::NoTrain);
     }
-    let next = header::next_stamp(store);
-    if next.0 == 4294967295 {
-        return 11;
+    if header::next_stamp(store) == LAST {
+        return Err(Refusal::NoStampLeft);
     }
-    if parts::no_slot_left(store, Train(x.a)) {
-        return 13;
+    if parts::no_slot_left(store, train) {
+        return Err(Refusal::NoSlotLeft);
     }
-    0
+    Ok(())
 }
 
-// 14 needs the rows of the window, and is left to the opening itself.
-fn open_number(store: &[u32], x: Step) -> u32
+// Too many rows are known only once those of the window are found, and are left to the opening itself.
+#[tactic(auto, using(std::proofs::lemmas::Bool::Decides::nat_tests, crate::specs::Tests::boards_there, crate::specs::Tests::sound_long), unfolding(rules::specs::Numbers::first_met))]
+fn open_allowed(store: &[u32], board: u32, window: Window) -> Result<(), Refusal>
     requires { sound_words store.now ≡ true }
-    ensures { result ≡ first_met (opening_tests (store_of store.now) x) }
+    ensures { answer_number result ≡ first_met (opening_tests (store_of store.now) (open_step board window)) }
 {
-    if !boxes::proper_window(window_of(x)) {
-        return 8;
+    if !boxes::proper_window(window) {
+        return Err(Refusal::NotProper);
     }
-    let i = x.a as usize;
-    if header::boards(store) <= i {
-        return 9;
+    if header::boards(store) <= board as usize {
+        return Err(Refusal::NoSuchBoard);
     }
-    if parts::is_open(store, i) {
-        return 10;
+    if parts::is_open(store, board as usize) {
+        return Err(Refusal::OpenOrClosed);
     }
-    0
+    Ok(())
 }
 
-fn close_number(store: &[u32], x: Step) -> u32
+#[tactic(auto, using(std::proofs::lemmas::Bool::Decides::nat_tests, crate::specs::Tests::boards_there, crate::specs::Tests::sound_long), unfolding(rules::specs::Numbers::first_met))]
+fn close_allowed(store: &[u32], board: u32) -> Result<(), Refusal>
     requires { sound_words store.now ≡ true }
-    ensures { result ≡ first_met (close_tests (store_of store.now) x) }
+    ensures { answer_number result ≡ first_met (close_tests (store_of store.now) (close_step board)) }
 {
-    let i = x.a as usize;
-    if header::boards(store) <= i {
-        return 9;
+    if header::boards(store) <= board as usize {
+        return Err(Refusal::NoSuchBoard);
     }
-    if !parts::is_open(store, i) {
-        return 10;
+    if !parts::is_open(store, board as usize) {
+        return Err(Refusal::OpenOrClosed);
     }
-    0
+    Ok(())
 }
 
 // ---- what an accepted step does
 
 // Takes the next stamp and notes it as the train's latest.
-fn take_stamp(store: &mut [u32], t: Train) -> Stamp
+#[tactic(auto, using(crate::specs::Tests::sound_long))]
+fn take_stamp(store: &mut [u32], train: Train) -> Stamp
     requires sound { sound_words store.old ≡ true }
-    requires takes_stamp { TakesStamp (store_of store.old) t }
-    ensures { StampTaken (store_of store.old) t store.new result }
+    requires takes_stamp { TakesStamp (store_of store.old) train }
+    ensures { StampTaken (store_of store.old) train store.new result }
 {
     let stamp = header::next_stamp(store);
-    parts::note(store, t, stamp);
+    parts::note(store, train, stamp);
     header::set_next(store, Stamp(stamp.0 + 1));
     stamp
 }
 
 // Takes a stamp, puts the entry with it into a leaf and tells the boards; answers how many open ones list the train before or after.
-fn put_report(store: &mut [u32], x: Step) -> u32
+fn put_report(store: &mut [u32], train: Train, bounds: Box) -> u32
     requires sound { sound_words store.old ≡ true }
-    requires accepted_report { AcceptedReport (store_of store.old) x }
-    ensures { Effected (rules.report (store_of store.old) x) store.new result }
+    requires accepted_report { AcceptedReport (store_of store.old) (report_step train bounds) }
+    ensures { Effected (rules.report (store_of store.old) (report_step train bounds)) store.new result }
 {
-    let train = Train(x.a);
-    let bounds = box_of(x);
     let stamp = take_stamp(store, train);
     let entry = Entry {
         bounds,
-        key: x.a,
+        key: train.0,
         stamp,
     };
     tree::put_at(store, 1, entry);
@@ -206,150 +131,94 @@ fn put_report(store: &mut [u32], x: Step) -> u32
 }
 
 // Takes the obsolete entries out of the leaf with the smallest mark, which becomes the next stamp, and says how many they were.
+#[tactic(auto, using(crate::specs::Tests::sound_long))]
 fn clean_leaf(store: &mut [u32]) -> u32
     requires { sound_words store.old ≡ true }
     ensures { Effected (rules.clean (store_of store.old)) store.new result }
 {
-    let q = page::leaf_to_clean(store, header::pages(store));
-    let gone = trim::obsolete_in(store, q);
+    let leaf = page::leaf_to_clean(store, header::pages(store));
+    let gone = trim::obsolete_in(store, leaf);
     let next = header::next_stamp(store);
-    trim::clean_tree(store, q, next);
+    trim::clean_tree(store, leaf, next);
     parts::lower_all(store, gone);
     gone.count
 }
 
 // ---- the steps
 
-fn refused(number: u32, held: usize) -> Outcome
-    ensures { result ≡ record { number = number; count = 0; held = held } }
+fn report(store: &mut [u32], train: Train, bounds: Box, held: &mut usize) -> Result<u32, Refusal>
+    requires { Given store.old held.old }
+    ensures { Stepped (rules.step (store_of store.old) (report_step train bounds)) store.new (answer_number result) (answer_count result) held.new }
 {
-    Outcome {
-        number,
-        count: 0,
-        held,
-    }
+    report_allowed(store, train, bounds, *held)?;
+    let touched = put_report(store, train, bounds);
+    *held += 1;
+    Ok(touched)
 }
 
-fn report(store: &mut [u32], x: Step, held: usize) -> Outcome
-    requires given { Given store.old held }
-    requires of_kind { (rules.in_form x ≡ true) × (x.kind ≡ 1) }
-    ensures { Stepped (rules.step (store_of store.old) x) store.new result }
+fn withdraw(store: &mut [u32], train: Train) -> Result<u32, Refusal>
+    requires { sound_words store.old ≡ true }
+    ensures { KeepsHeld store.old (withdraw_step train) store.new (answer_number result) (answer_count result) }
 {
-    let number = report_number(store, x, held);
-    if number != 0 {
-        return refused(number, held);
-    }
-    let touched = put_report(store, x);
-    Outcome {
-        number: 0,
-        count: touched,
-        held: held + 1,
-    }
-}
-
-fn withdraw(store: &mut [u32], x: Step, held: usize) -> Outcome
-    requires given { Given store.old held }
-    requires of_kind { (rules.in_form x ≡ true) × (x.kind ≡ 2) }
-    ensures { Stepped (rules.step (store_of store.old) x) store.new result }
-{
-    let number = withdraw_number(store, x);
-    if number != 0 {
-        return refused(number, held);
-    }
-    let train = Train(x.a);
+    withdraw_allowed(store, train)?;
     take_stamp(store, train);
-    let touched = parts::untell_all(store, train);
-    Outcome {
-        number: 0,
-        count: touched as u32,
-        held,
-    }
+    Ok(parts::untell_all(store, train) as u32)
 }
 
-fn clean(store: &mut [u32], x: Step, held: usize) -> Outcome
-    requires given { Given store.old held }
-    requires of_kind { (rules.in_form x ≡ true) × (x.kind ≡ 3) }
-    ensures { Stepped (rules.step (store_of store.old) x) store.new result }
+fn clean(store: &mut [u32], held: &mut usize) -> u32
+    requires { Given store.old held.old }
+    ensures { Stepped (rules.step (store_of store.old) clean_step) store.new 0 result held.new }
 {
     let removed = clean_leaf(store);
-    Outcome {
-        number: 0,
-        count: removed,
-        held: held - removed as usize,
-    }
+    *held -= removed as usize;
+    removed
 }
 
 // Frees each slot whose stamp is below the smallest mark of a leaf.
-fn inspect(store: &mut [u32], x: Step, held: usize) -> Outcome
-    requires given { Given store.old held }
-    requires of_kind { (rules.in_form x ≡ true) × (x.kind ≡ 4) }
-    ensures { Stepped (rules.step (store_of store.old) x) store.new result }
+fn inspect(store: &mut [u32]) -> u32
+    requires { sound_words store.old ≡ true }
+    ensures { KeepsHeld store.old inspect_step store.new 0 result }
 {
-    let freed = parts::inspect(store);
-    Outcome {
-        number: 0,
-        count: freed as u32,
-        held,
-    }
+    parts::inspect(store) as u32
 }
 
 // Opens a board with the rows of its window.
-fn open(store: &mut [u32], x: Step, held: usize) -> Outcome
-    requires given { Given store.old held }
-    requires of_kind { (rules.in_form x ≡ true) × (x.kind ≡ 5) }
-    ensures { Stepped (rules.step (store_of store.old) x) store.new result }
+fn open(store: &mut [u32], board: u32, window: Window) -> Result<u32, Refusal>
+    requires { sound_words store.old ≡ true }
+    ensures { KeepsHeld store.old (open_step board window) store.new (answer_number result) (answer_count result) }
 {
-    let number = open_number(store, x);
-    if number != 0 {
-        return refused(number, held);
-    }
-    let w = window_of(x);
+    open_allowed(store, board, window)?;
     let mut keys = [0u64; 576];
     let mut work = [0u64; 576];
-    let n = query::find(store, w, &mut keys, &mut work);
+    let n = query::find(store, window, &mut keys, &mut work);
     if 16 < n {
-        return refused(14, held);
+        return Err(Refusal::TooManyRows);
     }
-    parts::open_board(store, x.a as usize, w, &keys, n);
-    Outcome {
-        number: 0,
-        count: n as u32,
-        held,
-    }
+    parts::open_board(store, board as usize, window, &keys, n);
+    Ok(n as u32)
 }
 
-fn close(store: &mut [u32], x: Step, held: usize) -> Outcome
-    requires given { Given store.old held }
-    requires of_kind { (rules.in_form x ≡ true) × (x.kind ≡ 6) }
-    ensures { Stepped (rules.step (store_of store.old) x) store.new result }
+fn close(store: &mut [u32], board: u32) -> Result<u32, Refusal>
+    requires { sound_words store.old ≡ true }
+    ensures { KeepsHeld store.old (close_step board) store.new (answer_number result) (answer_count result) }
 {
-    let number = close_number(store, x);
-    if number != 0 {
-        return refused(number, held);
-    }
-    parts::close_board(store, x.a as usize);
-    Outcome {
-        number: 0,
-        count: 0,
-        held,
-    }
+    close_allowed(store, board)?;
+    parts::close_board(store, board as usize);
+    Ok(0)
 }
 
-// One step, of whatever kind: a refused one changes no word of the store.
-pub fn step(store: &mut [u32], x: Step, held: usize) -> Outcome
-    requires { Given store.old held }
-    ensures { Stepped (rules.step (store_of store.old) x) store.new result }
+// One step, of whatever kind, which answers the count that it writes. How many entries are held goes on with it.
+// A refused step changes no word of the store.
+pub fn step(store: &mut [u32], x: Step, held: &mut usize) -> Result<u32, Refusal>
+    requires { Given store.old held.old }
+    ensures { Stepped (rules.step (store_of store.old) x) store.new (answer_number result) (answer_count result) held.new }
 {
-    if !in_form(x) {
-        return refused(6, held);
-    }
-    let kind = x.kind;
-    match kind {
-        1 => report(store, x, held),
-        2 => withdraw(store, x, held),
-        3 => clean(store, x, held),
-        4 => inspect(store, x, held),
-        5 => open(store, x, held),
-        _ => close(store, x, held),
+    match Order::try_from(x)? {
+        Order::Report { train, bounds } => report(store, train, bounds, held),
+        Order::Withdraw(train) => withdraw(store, train),
+        Order::Clean => Ok(clean(store, held)),
+        Order::Inspect => Ok(inspect(store)),
+        Order::Open { board, window } => open(store, board, window),
+        Order::Close(board) => close(store, board),
     }
 }
