@@ -37,6 +37,7 @@ fn board_sound(store: &[u32], board: &Board<'_>) -> bool
     if !boxes::proper_window(w) {
         return false;
     }
+    // Only an open board with a proper window pays for the keys.
     let mut keys = [0u64; 576];
     let mut work = [0u64; 576];
     let n = query::find(store, w, &mut keys, &mut work);
