@@ -1,7 +1,7 @@
 // The judge's look at held entries, memo and marks: rules 4 to 7 of a store whose tree is sound.
 #![tactic(auto)]
 
-ghost use Rattle.std.specs.Prelude.{◌≡◌, ◌&&◌, ◌+◌, ◌≤◌, ◌<◌, length, get_or, set, take, drop};
+ghost use Rattle.std.specs.Prelude.{◌≡◌, ◌+◌, ◌≤◌, ◌<◌, length, take};
 ghost use Rattle.rules.specs.Lists.{every, distinct};
 ghost use Rattle.rules.specs.Store.{store_of};
 ghost use Rattle.theorems.specs.Leaves.{marked, with_mark};
@@ -198,7 +198,7 @@ enum Told {
 }
 
 // From the last key to the first each is tried against those behind it, and its flag set. Flags that were set before only cost time.
-#[tactic(auto, using(crate::proofs::Apart::none_tried, crate::proofs::Apart::equal_later, crate::proofs::Apart::one_more, crate::proofs::Apart::all_apart, crate::proofs::Apart::says_nothing))]
+#[tactic(auto, using(crate::proofs::Apart::all_apart, crate::proofs::Apart::says_nothing))]
 fn all_new(keys: &[u64], flags: &mut [bool]) -> Told
     requires { length flags.old ≡ 16384 }
     ensures { Says result (distinct keys.now) }
@@ -282,7 +282,7 @@ fn noted_sound(store: &[u32], memo: &[u32], p: usize, next: Stamp) -> bool
         counts: [0; COUNTERS],
     };
     note_pages(store, memo, p, next, &mut noted)
-        && are_distinct(&mut noted.stamps.as_mut_slice())
+        && are_distinct(noted.stamps.as_mut_slice())
         && are_distinct(noted.keys.as_mut_slice())
         && slots_fine(memo, &noted.counts, next)
 }

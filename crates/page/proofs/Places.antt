@@ -35,17 +35,13 @@ unfolding cover_of
 fold_covers e [] = refl
 fold_covers e (f ∷ es) = fold_cover e.bounds f.bounds es ∙ ap (cover e.bounds) (fold_covers f es)
 
-module _ (g : Page) (n : ℕ) (many : n ≡ min g.count 8) where
-  used_is : (contents g).places ≡ take n g.places
-  unfolding contents
-  used_is = ap (λ k. take k g.places) (omega arith)
-
-  pub none_covered : (b : Box) → length (take n g.places) ≡ 0 → b ≡ no_box → b ≡ cover_of its_box (contents g).places
+module _ (g : Page) (used : List Entry) (so : used ≡ (contents g).places) where
+  pub none_covered : (b : Box) → length used ≡ 0 → b ≡ no_box → b ≡ cover_of its_box (contents g).places
   unfolding cover_of
-  none_covered b z e = rw (used_is, length-zero _ z) e
+  none_covered b z e = rw (← so, length-zero _ z) e
 
-  pub some_covered : (e : Entry) (es : List Entry) (b : Box) → take n g.places ≡ e ∷ es → b ≡ fold with_box e.bounds es → b ≡ cover_of its_box (contents g).places
-  some_covered e es b there f = f ∙ fold_covers e es ∙ ap (cover_of its_box) (sym (used_is ∙ there))
+  pub some_covered : (e : Entry) (es : List Entry) (b : Box) → used ≡ e ∷ es → b ≡ fold with_box e.bounds es → b ≡ cover_of its_box (contents g).places
+  some_covered e es b there f = f ∙ fold_covers e es ∙ ap (cover_of its_box) (sym there ∙ so)
 
 -- ---- the places behind a removed one move down
 without_is : {A : Type 0} (xs : List A) (i : ℕ) → without xs i ≡ take i xs ++ drop (suc i) xs

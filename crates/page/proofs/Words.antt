@@ -1,6 +1,7 @@
 -- Reading and writing a page's words.
-use Rattle.std.proofs.Common.{ℕ, ◌≡◌, ◌+◌, ◌-◌, ◌*◌, ◌/◌, ◌≤◌, ◌<◌, List, [], ◌∷◌, take, drop, length, get_or, map, refl, append-nil, take-add, drop-drop, sym, ap, ◌∙◌, arith}
-use Rattle.std.proofs.lemmas.List.{map-id, take_all, ext_get_or, length-map}
+use Rattle.std.proofs.Common.{ℕ, ◌≡◌, ◌+◌, ◌-◌, ◌*◌, ◌/◌, ◌≤◌, ◌<◌, List, [], ◌∷◌, ◌++◌, take, drop, length, get_or, map, refl, append-nil, take-add, drop-drop, sym, ap, ◌∙◌, arith}
+use Rattle.std.proofs.Math.Seq.{sets, sets-eq}
+use Rattle.std.proofs.lemmas.List.{drop_all, map-id, take_all, ext_get_or, length-map}
 use Rattle.std.proofs.lemmas.Grind.{common_steps}
 use Rattle.std.proofs.lemmas.Slice.{take-put_mid}
 use borrow.Author.Tests.{lt-ltb, le-ltb}
@@ -16,6 +17,10 @@ use Rattle.rules.specs.laws.Places.{parts_at, cut-length, take-cut}
 use Rattle.page.specs.declared.Page.{Page}
 use Rattle.page.specs.Struct.{struct_words, struct_of, laid_page, struct_at}
 use Rattle.page.specs.Laws.{struct_words-length}
+
+-- stores to each place in turn leave what was stored; for the rows that `query` writes
+pub stored : (vs l : List ℕ) → length l ≡ length vs → sets l 0 vs ≡ vs
+stored vs l e = sets-eq vs l 0 (omega arith) ∙ ap (λ r. vs ++ r) (drop_all (0 + length vs) l (omega arith)) ∙ append-nil vs
 
 -- ---- the pages of a store
 pub pages_there : (w : List ℕ) (n p : ℕ) (ps : List (List ℕ)) → 16 + 52 * p ≤ length w → n ≡ length w - 16

@@ -84,6 +84,16 @@ pub fn put_page(store: &mut [u32], p: usize, at: PageNo, g: Page)
 
 // ---- the places of a page
 
+impl Page {
+    // The used places; where a damaged page's count says more than there are, all eight.
+    #[tactic(auto, unfolding(crate::specs::Struct::contents))]
+    pub fn used(&self) -> &[Entry]
+        ensures { result.now ≡ (spec.contents self.now).places }
+    {
+        &self.places[..(self.count as usize).min(8)]
+    }
+}
+
 // Place i; past the eighth there is none.
 pub fn place_at(g: Page, i: usize) -> Entry
     ensures { result ≡ get_or g.places i rules.no_place }
@@ -130,8 +140,7 @@ pub fn remove_place(mut g: Page, i: usize) -> Page
 pub fn cover_page(g: Page) -> Box
     ensures { result ≡ cover_of its_box (spec.contents g).places }
 {
-    let used = &g.places[..(g.count as usize).min(8)];
-    let Some((first, others)) = used.split_first() else {
+    let Some((first, others)) = g.used().split_first() else {
         return Box::default();
     };
     others

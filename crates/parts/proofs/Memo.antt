@@ -7,7 +7,6 @@ use mathlib.Core.Bool.{Bool, false}
 use mathlib.Core.List.{List, [], ◌∷◌}
 use lib.Dec.{leb}
 use lib.ListN.{length, get_or, take, drop, drop_of_length-le}
-use Rattle.std.proofs.Math.Nat.{min-eq_right}
 use lib.Seq.{drop-cons}
 use borrow.Rule.Slice.PartMut.{put_mid}
 use Rattle.rules.specs.declared.Train.{Train}
@@ -25,8 +24,6 @@ use Rattle.rules.specs.laws.Memo.{room_for, noted-in_range}
 use Rattle.rules.proofs.Memo.{lowered-in_range, inspected-in_range}
 use Rattle.rules.specs.laws.Parts.{with_memo}
 use Rattle.rules.specs.laws.Placed.{memo_part, memo_back}
-use Rattle.page.specs.declared.Page.{Page}
-use Rattle.page.specs.Struct.{contents}
 use Rattle.memo.specs.Slots.{room, slots_in, MemoWords, Inspected}
 use Rattle.memo.specs.Laws.{memo_room, memo_given, given_room, given_counts, so_looked_up, so_full, so_noted, so_lowered, so_inspected, so_freed}
 use Rattle.parts.specs.InOrder.{Lent, Became}
@@ -121,6 +118,3 @@ module _ (v : List ℕ) (es : List Entry) (w : List ℕ) (i : ℕ) (so : Lowerin
       }
 
 -- a page's used places
-pub used_places : (g : Page) → g.count ≤ 8 → (contents g).places ≡ take g.count g.places
-unfolding contents
-used_places g few = rw (min-eq_right few)

@@ -76,7 +76,7 @@ pub fn lower_all(store: &mut [u32], gone: Page)
     requires { Lent store.old × (gone.count ≤ 8) }
     ensures { Became (with_memo (store_of store.old) (lowered_all (contents gone).places (store_of store.old).memo)) store.new }
 {
-    for place in &gone.places[..gone.count as usize] {
+    for place in gone.used() {
         lower(store, Train(place.key));
     }
 }

@@ -104,6 +104,7 @@ pub fn find(store: &[u32], w: Window, keys: &mut [u64], work: &mut [u64]) -> usi
     requires keys_len { (length keys.old ≡ 576) × (length work.old ≡ 576) }
     ensures { Found (store_of store.now) w keys.old work.old result keys.new work.new }
 {
+    // The slices and the count beside them stay: the contract of `find` names them.
     let r = collect(
         store,
         header::levels(store),

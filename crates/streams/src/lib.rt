@@ -9,6 +9,7 @@ use std::io;
 use std::io::Read;
 
 // Reads until the buffer is full or the input ends, and answers how many bytes it put at the buffer's front.
+#[tactic(auto, using(crate::proofs::Fronts::front_read))]
 pub fn read_full<R: Read>(reader: &mut R, buffer: &mut [u8]) -> io::Result<usize>
     ensures bound { ReadsAtMost result buffer.new }
     ensures length { length buffer.new ≡ length buffer.old }
@@ -18,6 +19,7 @@ pub fn read_full<R: Read>(reader: &mut R, buffer: &mut [u8]) -> io::Result<usize
     ensures none_lost { OnErr result ((n : ℕ) × (n ≤ length buffer.new) × Consumes (R.remaining reader.old) (R.remaining reader.new) (take n buffer.new)) }
 {
     let mut done = 0;
+    // No index: a read moves on by as many bytes as it gives, so the loop ends by a measure.
     while done < buffer.len() {
         let n = reader.read(&mut buffer[done..])?;
         if n == 0 {

@@ -1,42 +1,36 @@
 -- Finding a byte, and what reading a field byte by byte comes to. Assumes nothing.
-use Prim.Native.Nat.{ℕ, suc, ◌+◌, ◌*◌, ◌-◌, ◌≤◌, ◌<◌}
-use native.Mathlib.Omega.{arith}
-use native.Mathlib.Numerals.{add-one}
-use mathlib.Core.Path.{◌≡◌, refl, ◌∙◌}
-use mathlib.Core.Bool.{true, false, ◌&&◌, and-true, and-false}
-use mathlib.Core.List.{List, [], ◌∷◌}
-use lib.Dec.{eqb, leb, ltb}
-use lib.ListN.{length, get_or, drop, drop_of_length-le}
-use lib.Seq.{drop-cons}
-use borrow.Author.Tests.{eq-eqb, ne_eqb, lt-ltb, le-leb, lt-leb}
+use Rattle.std.specs.Prelude.{ℕ, suc, ◌+◌, ◌*◌, ◌-◌, ◌≤◌, ◌<◌, ◌≡◌, refl, Bool, true, false, ◌&&◌, cond, Option, Some, None, List, [], ◌∷◌, eqb, leb, ltb, length, get_or, take, drop}
+use Rattle.std.proofs.Common.{arith, add-one, sym, ap, ◌∙◌, length-drop, take_all, drop_of_length-le, drop-cons}
+use Rattle.std.proofs.lemmas.Bool.{eqb-true, lt-ltb, ltb-false, le-leb, lt-leb}
+use Rattle.std.proofs.Math.Bool.{and-true, and-false}
+use Rattle.std.specs.List.{position, position_or_len}
+use Rattle.std.specs.Option.{unwrap_or}
+use Rattle.std.specs.Char.{is_ascii_digit}
+use Rattle.std.proofs.lemmas.List.Sums.{prefix_len-le-length}
+use Rattle.std.proofs.lemmas.List.Recursion.{is_position_or_len}
 use Rattle.rules.specs.Lists.{first, every, all_of}
 use Rattle.rules.specs.Store.{limit}
-use Rattle.text.specs.declared.Number.TheVariants.{Value, Bad}
 use Rattle.text.specs.Reading.{is_digit, value_from, value, is_decimal, number_in}
 use Rattle.text.specs.Promised.{Until}
 
--- ---- the first b from a place on: it is not before place i
-abbrev pub Looking : List ℕ → ℕ → ℕ → ℕ → Type 0
-Looking text from b i = i + first (λ x. eqb x b) (drop i text) ≡ from + first (λ x. eqb x b) (drop from text)
+-- ---- the first that passes: the rules' word and std's
+pub first_std : (f : ℕ → Bool) (xs : List ℕ) → first f xs ≡ position_or_len f xs
+unfolding first
+first_std f xs = is_position_or_len (first f) f refl (λ x ys. let e : suc (first f ys) ≡ 1 + first f ys = omega arith in ap (cond (f x) 0) e) xs
 
-module _ (text : List ℕ) (from b i : ℕ) (low : from ≤ i) (so_far : Looking text from b i) where
-  pub found : i < length text → get_or text i 0 ≡ b → Until text from b i
-  unfolding first
-  found h e =
-      let s : i + 0 ≡ from + first (λ x. eqb x b) (drop from text) = rw (drop-cons text i 0 h, eq-eqb _ _ e) at so_far in
-      record { there = omega arith; behind = low; inside = omega arith }
+pub until_there : (text : List ℕ) (from b : ℕ) → from ≤ length text → (r : Option ℕ) → r ≡ position (λ x. eqb x b) (take (length text - from) (drop from text)) → Until text from b (from + unwrap_or r (length text - from))
+until_there text from b low r e =
+    rw (e, take_all (length text - from) (drop from text) (omega (arith, length-drop from text)), away _ refl) (record { there = ap (λ n. from + n) (sym (first_std (λ x. eqb x b) (drop from text))); behind = omega arith; inside = omega (arith, most, length-drop from text) })
+  where
+    n : ℕ
+    n = position_or_len (λ x. eqb x b) (drop from text)
 
-  pub passed : i < length text → (get_or text i 0 ≡ b → ⊥) → Looking text from b (i + 1)
-  unfolding first
-  passed h e =
-      let s : i + suc (first (λ x. eqb x b) (drop (suc i) text)) ≡ from + first (λ x. eqb x b) (drop from text) = rw (drop-cons text i 0 h, ne_eqb _ _ e) at so_far in
-      rw (add-one i) (omega arith)
+    most : n ≤ length (drop from text)
+    most = prefix_len-le-length _ (drop from text)
 
-  pub nowhere : length text ≤ i → i ≤ length text → Until text from b i
-  unfolding first
-  nowhere h k =
-      let s : i + 0 ≡ from + first (λ x. eqb x b) (drop from text) = rw (drop_of_length-le text h) at so_far in
-      record { there = omega arith; behind = low; inside = k }
+    away : (t : Bool) → ltb n (length (drop from text)) ≡ t → unwrap_or (cond t (Some n) None) (length text - from) ≡ n
+    away true s = refl
+    away false s = omega (arith, ltb-false _ _ s, most, length-drop from text)
 
 -- ---- a field: what is left of it from place i on, with the value so far
 value_grows : (v : ℕ) (bs : List ℕ) → v ≤ value_from v bs
@@ -49,61 +43,56 @@ pub record Counting (field : List ℕ) (v i : ℕ) : Type 0 where
   pub gives : value_from v (drop i field) ≡ value field
   pub decides : is_decimal field ≡ (every is_digit (drop i field) && leb (value field) limit)
 
-pub empty_bad : (field : List ℕ) → length field ≡ 0 → Bad ≡ number_in field
+pub empty_bad : (field : List ℕ) → true ≡ eqb (length field) 0 → None ≡ number_in field
 unfolding number_in is_decimal all_of
 empty_bad [] z = refl
-empty_bad (b ∷ bs) z = absurd (omega arith)
+empty_bad (b ∷ bs) z = absurd (omega (arith, eqb-true (length (b ∷ bs)) 0 (sym z)))
 
-pub counting_none : (field : List ℕ) → (length field ≡ 0 → ⊥) → Counting field 0 0
+pub counting_none : (field : List ℕ) → false ≡ eqb (length field) 0 → Counting field 0 0
 unfolding is_decimal all_of value
-counting_none field h =
-    let s : ltb 0 (length field) ≡ true = lt-ltb 0 (length field) (omega arith) in
+counting_none [] z = absurd (cc)
+counting_none (b ∷ bs) z =
+    let s : ltb 0 (length (b ∷ bs)) ≡ true = lt-ltb 0 (length (b ∷ bs)) (omega arith) in
     record { small = omega arith; gives = refl; decides = rw (s, and-true) }
 
-no_number : (field : List ℕ) → is_decimal field ≡ false → Bad ≡ number_in field
+no_number : (field : List ℕ) → is_decimal field ≡ false → None ≡ number_in field
 unfolding number_in
 no_number field e = rw e
 
-module _ (field : List ℕ) (v i : ℕ) (h : Counting field v i) where
-  pub whole_field : length field ≤ i → Value v ≡ number_in field
-  unfolding number_in value_from
-  whole_field l =
-      let d : drop i field ≡ [] = drop_of_length-le field l in
-      let g : v ≡ value field = rw d at h.gives in
-      let t : leb (value field) limit ≡ true = le-leb _ _ (rw g at h.small) in
-      let e : is_decimal field ≡ true = h.decides ∙ rw (d, t) in
-      rw (e, g)
+pub whole_field : (field : List ℕ) (v i : ℕ) → Counting field v i → length field ≤ i → Some v ≡ number_in field
+unfolding number_in value_from
+whole_field field v i h l =
+    let d : drop i field ≡ [] = drop_of_length-le field l in
+    let g : v ≡ value field = rw d at h.gives in
+    let t : leb (value field) limit ≡ true = le-leb _ _ (rw g at h.small) in
+    let e : is_decimal field ≡ true = h.decides ∙ rw (d, t) in
+    rw (e, g)
 
-  module _ (inside : i < length field) (b : ℕ) (here : b ≡ get_or field i 0) where
-    left : drop i field ≡ b ∷ drop (suc i) field
-    left = rw here (drop-cons field i 0 inside)
+module _ (field : List ℕ) (v i : ℕ) (h : Counting field v i) (inside : i < length field) where
+  abbrev b : ℕ
+  b = get_or field i 0
 
-    decides_here : is_decimal field ≡ ((is_digit b && every is_digit (drop (suc i) field)) && leb (value field) limit)
-    decides_here = rw left at h.decides
+  decides_here : is_decimal field ≡ ((is_digit b && every is_digit (drop (suc i) field)) && leb (value field) limit)
+  decides_here = rw (drop-cons field i 0 inside) at h.decides
 
-    pub too_low : b < 48 → Bad ≡ number_in field
+  pub no_digit : false ≡ is_ascii_digit b → None ≡ number_in field
+  unfolding is_digit
+  no_digit k = no_number field (decides_here ∙ rw (sym k))
+
+  module _ (digit : true ≡ is_ascii_digit b) where
+    decides_on : is_decimal field ≡ (every is_digit (drop (suc i) field) && leb (value field) limit)
     unfolding is_digit
-    too_low k = no_number field (decides_here ∙ rw (lt-leb 48 b k))
+    decides_on = decides_here ∙ rw (sym digit)
 
-    module _ (low : 48 ≤ b) where
-      pub too_high : 57 < b → Bad ≡ number_in field
-      unfolding is_digit
-      too_high k = no_number field (decides_here ∙ rw (le-leb 48 b low, lt-leb b 57 k))
+    gives_on : value_from (10 * v + (b - 48)) (drop (suc i) field) ≡ value field
+    unfolding value_from
+    gives_on = rw (drop-cons field i 0 inside) at h.gives
 
-      module _ (high : b ≤ 57) where
-        decides_on : is_decimal field ≡ (every is_digit (drop (suc i) field) && leb (value field) limit)
-        unfolding is_digit
-        decides_on = decides_here ∙ rw (le-leb 48 b low, le-leb b 57 high)
+    pub too_large : limit < 10 * v + (b - 48) → None ≡ number_in field
+    too_large k =
+        let g = value_grows (10 * v + (b - 48)) (drop (suc i) field) in
+        let t : leb (value field) limit ≡ false = lt-leb (value field) limit (omega (arith, gives_on)) in
+        no_number field (decides_on ∙ rw t (and-false (every is_digit (drop (suc i) field))))
 
-        gives_on : value_from (10 * v + (b - 48)) (drop (suc i) field) ≡ value field
-        unfolding value_from
-        gives_on = rw left at h.gives
-
-        pub too_large : (m : ℕ) → limit ≤ m → m < 10 * v + (b - 48) → Bad ≡ number_in field
-        too_large m l k =
-            let g = value_grows (10 * v + (b - 48)) (drop (suc i) field) in
-            let t : leb (value field) limit ≡ false = lt-leb (value field) limit (omega (arith, gives_on)) in
-            no_number field (decides_on ∙ rw t (and-false (every is_digit (drop (suc i) field))))
-
-        pub counting_on : 10 * v + (b - 48) ≤ limit → Counting field (10 * v + (b - 48)) (i + 1)
-        counting_on k = rw (add-one i) (record { small = k; gives = gives_on; decides = decides_on })
+    pub counting_on : (w : ℕ) → w ≤ limit → w ≡ 10 * v + (b - 48) → Counting field w (i + 1)
+    counting_on w k e = rw add-one (record { small = k; gives = rw (← e) at gives_on; decides = decides_on })

@@ -1,4 +1,5 @@
 pub mod Fields
+pub mod Pieces
 pub mod Lines
 pub mod ManyLines
 pub mod Puts

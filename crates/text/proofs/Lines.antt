@@ -1,20 +1,52 @@
--- Reading a line field by field, and lines one after the other. Assumes nothing.
-use Prim.Native.Nat.{ℕ, zero, suc, ◌+◌, ◌-◌, ◌≤◌, ◌<◌}
-use native.Mathlib.Omega.{arith}
-use mathlib.Core.Path.{◌≡◌, refl, sym, ◌∙◌}
-use mathlib.Core.Bool.{Bool, true, false, ◌&&◌, cond, and-true, and-false}
-use mathlib.Core.List.{List, [], ◌∷◌}
-use lib.Dec.{eqb, eqb-suc-suc}
-use lib.ListN.{length, take, drop, set}
-use borrow.Author.Tests.{eqb-true, eqb-false, eq-eqb, ne_eqb}
-use lib.Seq.{take-nil}
+-- Reading a line field by field. Assumes nothing.
+use Rattle.std.specs.Prelude.{ℕ, suc, ◌+◌, ◌-◌, ◌≤◌, ◌<◌, ◌≡◌, refl, Bool, true, false, ◌&&◌, not, cond, Option, Some, None, MatchOption, List, [], ◌∷◌, ◌++◌, eqb, length, get_or, take, set}
+use Rattle.std.proofs.Common.{arith, Bor, sym, ap, subst, ◌∙◌}
+use Rattle.std.proofs.lemmas.Bool.{ne_eqb}
+use Rattle.std.proofs.lemmas.Grind.{common_steps}
+use Rattle.std.proofs.lemmas.Fn.{always_returns_same}
+use Rattle.std.proofs.lemmas.List.Splits.{slice_split_none, slice_split_at}
+use Rattle.std.proofs.Math.Bool.{and-false}
+use Rattle.std.specs.Bool.{MatchBool}
+use Rattle.std.specs.Fn.{ComputesKey, CalledAt}
+use Rattle.std.specs.List.{All, slice_split, onto_first, IsFirstMatchOrLen}
+use Rattle.std.specs.Option.{is_some}
+use Rattle.std.specs.Slice.Iter.{split_steps, split_rest, split_done, split_callee}
+use Rattle.std.specs.declared.slice.Split.{Split}
+use denote.Param.Members.{Mut}
+use lib.Dec.{eqb-suc-suc}
 use Rattle.rules.specs.Lists.{every, all_of}
-use Rattle.text.specs.declared.Number.{Number}
-use Rattle.text.specs.declared.Number.TheVariants.{Value, Bad}
-use Rattle.text.specs.Reading.{onto, parts, space, fields, is_decimal, value, number_in, all_decimals, in_form, words_before, words_read}
+use Rattle.text.specs.Reading.{onto, parts, fields, is_decimal, value, number_in, all_decimals, in_form, words_before, words_read}
 use Rattle.text.specs.Laid.{Laid, Partly, none_yet, one_more, all_laid, one_laid, laid_length}
-use Rattle.text.specs.Promised.{Until, LineRead}
-use Rattle.text.specs.Cutting.{more_fields, last_field}
+use Rattle.text.specs.Promised.{LineRead}
+
+-- ---- the fields of a line are the parts that std's split gives
+abbrev pub split_left : {F : Type 0} → Split ℕ F → List (List ℕ)
+split_left s = cond (split_done s) [] (slice_split (λ b. eqb b 32) (split_rest s))
+
+pub fields_split : (line : List ℕ) → fields line ≡ slice_split (λ b. eqb b 32) line
+unfolding parts onto
+fields_split [] = refl
+fields_split (b ∷ bs) = ap (λ ps. cond (eqb b 32) ([] ∷ ps) (onto b ps)) (fields_split bs) ∙ ap (cond (eqb b 32) ([] ∷ slice_split (λ b. eqb b 32) bs)) (same (slice_split (λ b. eqb b 32) bs))
+  where
+    same : (ps : List (List ℕ)) → onto b ps ≡ onto_first b ps
+    same [] = refl
+    same (p ∷ ps) = refl
+
+next_part : (p : ℕ → Bool) (xs x rest : List ℕ) (done : Bool) → MatchBool done (xs ≡ x) ((y : ℕ) × (xs ≡ x ++ (y ∷ rest))) → IsFirstMatchOrLen p xs (length x) → slice_split p xs ≡ x ∷ cond done [] (slice_split p rest)
+next_part p xs x rest true e h = ap (slice_split p) e ∙ slice_split_none p x (λ k d l. subst (λ ys. p (get_or ys k d) ≡ false) e (h.0 k d (omega arith) l))
+next_part p xs x rest false e h =
+    let front : All (λ z. p z ≡ false) x = λ k d l. let a = h.0 k d (omega arith) l in let b = e.1 in grind (arith, common_steps) in
+    let hit : p e.0 ≡ true = let b = e.1 in let a = h.1 (grind (arith, common_steps)) e.0 in grind (arith, common_steps) in
+    ap (slice_split p) e.1 ∙ slice_split_at p x e.0 rest front hit
+
+-- what a call of `next` gives
+pub next_field : {F : Type 0} (g : Mut F (Bor ℕ × Unit {0}) Bool) (s t : Split ℕ F) (r : Option (Bor (List ℕ))) → split_steps g s r t
+    → ((x : ℕ) (b : Bool) (q : F) → CalledAt g (split_callee s) x b q → (q ≡ split_callee s) × (b ≡ eqb x 32)) → MatchOption r (split_left s ≡ []) (λ x. split_left s ≡ x.now ∷ split_left t)
+next_field g s t None k tests = ap (λ d. cond d [] (slice_split (λ b. eqb b 32) (split_rest s))) k.0
+next_field g s t (Some x) k tests =
+    let key : ComputesKey g (λ b. eqb b 32) (split_callee s) =
+    always_returns_same g (λ a r. r ≡ eqb a.0.now 32) (split_callee s) (λ a r q c. let m = tests a.0.now r q (record { shown = a.0; shows = refl; called = c }) in (m.1, m.0)) in
+    ap (λ d. cond d [] (slice_split (λ b. eqb b 32) (split_rest s))) k.0 ∙ next_part (λ b. eqb b 32) (split_rest s) x.now (split_rest t) (split_done t) k.1 (k.2 (λ b. eqb b 32) key).1
 
 -- ---- a line of n decimals: its first field, and the others
 form_on : (n : ℕ) (f : List ℕ) (fs : List (List ℕ)) → all_decimals (suc n) (f ∷ fs) ≡ (is_decimal f && all_decimals n fs)
@@ -25,127 +57,80 @@ form_on n f fs = go (is_decimal f)
     go true = rw (eqb-suc-suc (length fs) n)
     go false = and-false (eqb (suc (length fs)) (suc n))
 
-words_on : (n : ℕ) (f : List ℕ) (fs : List (List ℕ)) → is_decimal f ≡ true → words_before (take (suc n) (f ∷ fs)) ≡ value f ∷ words_before (take n fs)
-unfolding words_before
-words_on n f fs e = rw e
-
-words_stop : (n : ℕ) (f : List ℕ) (fs : List (List ℕ)) → is_decimal f ≡ false → words_before (take n (f ∷ fs)) ≡ []
-unfolding words_before
-words_stop zero f fs e = refl
-words_stop (suc n) f fs e = rw e
-
 -- what a field's answer says
-value-told : (v : ℕ) (f : List ℕ) → Value v ≡ number_in f → (is_decimal f ≡ true) × (v ≡ value f)
+value_told : (v : ℕ) (f : List ℕ) → Some v ≡ number_in f → (is_decimal f ≡ true) × (v ≡ value f)
 unfolding number_in
-value-told v f e = go (is_decimal f) e
+value_told v f e = go (is_decimal f) e
   where
-    go : (t : Bool) → Value v ≡ cond t (Value (value f)) Bad → (t ≡ true) × (v ≡ value f)
+    go : (t : Bool) → Some v ≡ cond t (Some (value f)) None → (t ≡ true) × (v ≡ value f)
     go true q = (refl, cc)
-    go false q = absurd (let z : ◌≡◌ {A = ℕ} 0 1 = cc in omega arith)
+    go false q = absurd (cc)
 
-bad_told : (f : List ℕ) → Bad ≡ number_in f → is_decimal f ≡ false
+bad_told : (f : List ℕ) → None ≡ number_in f → is_decimal f ≡ false
 unfolding number_in
 bad_told f e = go (is_decimal f) e
   where
-    go : (t : Bool) → Bad ≡ cond t (Value (value f)) Bad → t ≡ false
-    go true q = absurd (let z : ◌≡◌ {A = ℕ} 0 1 = cc in omega arith)
+    go : (t : Bool) → None ≡ cond t (Some (value f)) None → t ≡ false
+    go true q = absurd (cc)
     go false q = refl
 
-some_field : (b : ℕ) (xs : List ℕ) → 0 < length (parts b ([] ∷ []) xs)
-unfolding parts onto
-some_field b [] = omega arith
-some_field b (x ∷ xs) = go (eqb x b) (parts b ([] ∷ []) xs)
-  where
-    go : (t : Bool) (ps : List (List ℕ)) → 0 < length (cond t ([] ∷ ps) (onto x ps))
-    go true ps = omega arith
-    go false [] = omega arith
-    go false (p ∷ ps) = omega arith
+-- ---- the fields that are left, from the word at i on
+pub record Scanning (line out now : List ℕ) (left : List (List ℕ)) (i : ℕ) : Type 0 where
+  pub decides : all_decimals (length out - i) left ≡ in_form (length out) line
+  pub written : Partly out 0 (words_read (length out) line) now i (words_before (take (length out - i) left))
 
--- ---- the fields from place `at` on are what is left, from the word at i on
-pub record Scanning (line out : List ℕ) (n : ℕ) (now : List ℕ) (at i : ℕ) : Type 0 where
-  pub long : n ≡ length out
-  pub decides : all_decimals (n - i) (fields (drop at line)) ≡ in_form n line
-  pub written : Partly out 0 (words_read n line) now i (words_before (take (n - i) (fields (drop at line))))
-
-pub scanning_all : (line out : List ℕ) → Scanning line out (length out) out 0 0
+pub scanning_all : (line out : List ℕ) → Scanning line out out (slice_split (λ b. eqb b 32) line) 0
 unfolding in_form words_read
 scanning_all line out =
     let z : length out - 0 ≡ length out = omega arith in
-    record { long = refl; decides = rw z; written = rw z (none_yet out 0 (words_read (length out) line) (omega arith)) }
+    rw (← fields_split line) (record { decides = rw z; written = rw z (none_yet out 0 (words_read (length out) line) (omega arith)) })
 
-line_read : (line out : List ℕ) (n : ℕ) (r : Bool) (now : List ℕ) (to : ℕ) → n ≡ length out → r ≡ in_form n line → Laid out 0 (words_read n line) now to → LineRead line out r now
-line_read line out n r now to e s l =
-    let z : to ≡ length (words_read n line) = omega (arith, l.ends) in
-    record { said = rw (← e) s; read = rw (← e, ← z) l }
+line_read : (line out : List ℕ) (r : Bool) (now : List ℕ) (to : ℕ) → r ≡ in_form (length out) line → Laid out 0 (words_read (length out) line) now to → LineRead line out r now
+line_read line out r now to s l =
+    let z : to ≡ length (words_read (length out) line) = omega (arith, l.ends) in
+    record { said = s; read = rw (← z) l }
 
-module _ (line out : List ℕ) (n : ℕ) (now : List ℕ) (at i : ℕ) (s : Scanning line out n now at i) where
-  pub now_long : length now ≡ n
-  now_long = laid_length s.written.laid ∙ sym s.long
-
-  pub full : n ≤ i → LineRead line out false now
+module _ (line out now : List ℕ) (left : List (List ℕ)) (i : ℕ) (s : Scanning line out now left i) where
+  -- all words are read: the line is in form if no field is left
+  pub full : length out ≤ i → (r : Option (Bor (List ℕ))) (ts : List (List ℕ)) → MatchOption r (left ≡ []) (λ x. left ≡ x.now ∷ ts) → (b : Bool) → is_some r ≡ not b → LineRead line out b now
   unfolding words_before all_decimals all_of
-  full h =
-      let z : n - i ≡ 0 = omega arith in
-      let e : eqb (length (fields (drop at line))) 0 ≡ false = ne_eqb (length (fields (drop at line))) 0 (λ q. omega (arith, some_field space (drop at line))) in
-      line_read line out n false now i s.long (rw (z, e) at s.decides) (all_laid s.written (rw z))
+  full h None ts q true e =
+      let z : length out - i ≡ 0 = omega arith in
+      line_read line out true now i (rw (z, q) at s.decides) (all_laid s.written (rw z))
+  full h (Some x) ts q false e =
+      let z : length out - i ≡ 0 = omega arith in
+      let n : eqb (suc (length ts)) 0 ≡ false = ne_eqb (suc (length ts)) 0 (λ q. omega arith) in
+      line_read line out false now i (rw (z, q, n) at s.decides) (all_laid s.written (rw z))
+  full h None ts q false e = absurd (cc)
+  full h (Some x) ts q true e = absurd (cc)
 
-  module _ (inside : i < n) (f : List ℕ) (fs : List (List ℕ)) (parted : fields (drop at line) ≡ f ∷ fs) where
-    fewer : n - i ≡ suc (n - (i + 1))
+  module _ (inside : i < length out) where
+    fewer : length out - i ≡ suc (length out - (i + 1))
     fewer = omega arith
 
-    decided : in_form n line ≡ (is_decimal f && all_decimals (n - (i + 1)) fs)
-    decided = sym s.decides ∙ rw (parted, fewer) (form_on (n - (i + 1)) f fs)
+    -- the next field is read, if there is one
+    module _ (r : Option (Bor (List ℕ))) (ts : List (List ℕ)) (next : MatchOption r (left ≡ []) (λ x. left ≡ x.now ∷ ts)) (a : Option ℕ) (read : MatchOption r (a ≡ None) (λ x. a ≡ number_in x.now)) where
+      pub stops : a ≡ None → LineRead line out false now
+      unfolding words_before all_decimals all_of
+      stops e = go r next read
+        where
+          go : (r : Option (Bor (List ℕ))) → MatchOption r (left ≡ []) (λ x. left ≡ x.now ∷ ts) → MatchOption r (a ≡ None) (λ x. a ≡ number_in x.now) → LineRead line out false now
+          go None q b =
+              let n : eqb 0 (suc (length out - (i + 1))) ≡ false = ne_eqb 0 (suc (length out - (i + 1))) (λ q. omega arith) in
+              line_read line out false now i (rw (fewer, q, n) at s.decides) (all_laid s.written (rw (fewer, q)))
+          go (Some x) q b =
+              let d = bad_told x.now (sym e ∙ b) in
+              line_read line out false now i (sym (sym s.decides ∙ rw (fewer, q) (form_on (length out - (i + 1)) x.now ts ∙ rw d))) (all_laid s.written (rw (fewer, q, d)))
 
-    pub faulty : Bad ≡ number_in f → LineRead line out false now
-    faulty b =
-        let d = bad_told f b in
-        line_read line out n false now i s.long (sym (decided ∙ rw d)) (all_laid s.written (rw parted (words_stop (n - i) f fs d)))
-
-    none_left : eqb 0 (n - (i + 1)) ≡ eqb (i + 1) n
-    none_left = go (eqb (i + 1) n) refl
-      where
-        go : (t : Bool) → eqb (i + 1) n ≡ t → eqb 0 (n - (i + 1)) ≡ t
-        go true q = let z = eqb-true (i + 1) n q in eq-eqb 0 (n - (i + 1)) (omega arith)
-        go false q = let z = eqb-false (i + 1) n q in ne_eqb 0 (n - (i + 1)) (λ y. z (omega arith))
-
-    module _ (v : ℕ) (told : Value v ≡ number_in f) where
-      written_on : Partly out 0 (words_read n line) (set now i v) (i + 1) (words_before (take (n - (i + 1)) fs))
-      written_on =
-          let w : words_before (take (n - i) (fields (drop at line))) ≡ v ∷ words_before (take (n - (i + 1)) fs) =
-          rw (parted, fewer, (value-told v f told).1) (words_on (n - (i + 1)) f fs (value-told v f told).0) in
-          one_more s.written (one_laid now i v (omega (arith, now_long))) w
-
-      decided_on : in_form n line ≡ all_decimals (n - (i + 1)) fs
-      decided_on = decided ∙ rw (value-told v f told).0
-
-  module _ (inside : i < n) (e : ℕ) (u : Until line at space e) (r : Number) (answer : r ≡ number_in (take (e - at) (drop at line))) where
-    abbrev field : List ℕ
-    field = take (e - at) (drop at line)
-
-    pub stops : r ≡ Bad → LineRead line out false now
-    stops b = go (eqb e (length line)) refl
-      where
-        go : (t : Bool) → eqb e (length line) ≡ t → LineRead line out false now
-        go true q = faulty inside field [] (last_field line at e u (eqb-true _ _ q)) (sym b ∙ answer)
-        go false q = faulty inside field (fields (drop (e + 1) line)) (more_fields line at e u (eqb-false _ _ q)) (sym b ∙ answer)
-
-    module _ (v : ℕ) (given : r ≡ Value v) where
-      told : Value v ≡ number_in field
-      told = sym given ∙ answer
-
-      pub ends : e ≡ length line → LineRead line out (eqb (i + 1) n) (set now i v)
-      unfolding all_decimals all_of words_before
-      ends h =
-          let p = last_field line at e u h in
-          let m = n - (i + 1) in
-          let d : in_form n line ≡ eqb (i + 1) n = decided_on inside field [] p v told ∙ and-true (eqb 0 m) ∙ none_left inside field [] p in
-          line_read line out n (eqb (i + 1) n) (set now i v) (i + 1) s.long (sym d) (all_laid (written_on inside field [] p v told) (rw take-nil))
-
-      pub goes_on : (e ≡ length line → ⊥) → Scanning line out n (set now i v) (e + 1) (i + 1)
-      goes_on h =
-          let p = more_fields line at e u h in
-          record {
-            long = s.long;
-            decides = sym (decided_on inside field (fields (drop (e + 1) line)) p v told);
-            written = written_on inside field (fields (drop (e + 1) line)) p v told;
-          }
+      pub goes_on : (v : ℕ) → a ≡ Some v → Scanning line out (set now i v) ts (i + 1)
+      unfolding words_before
+      goes_on v e = go r next read
+        where
+          go : (r : Option (Bor (List ℕ))) → MatchOption r (left ≡ []) (λ x. left ≡ x.now ∷ ts) → MatchOption r (a ≡ None) (λ x. a ≡ number_in x.now) → Scanning line out (set now i v) ts (i + 1)
+          go None q b = absurd (cc)
+          go (Some x) q b =
+              let t = value_told v x.now (sym e ∙ b) in
+              record {
+                decides = sym (rw (fewer, q) (form_on (length out - (i + 1)) x.now ts ∙ rw t.0)) ∙ s.decides;
+                written = one_more s.written (one_laid now i v (omega (arith, laid_length s.written.laid))) (rw (fewer, q, t.0, t.1));
+              }

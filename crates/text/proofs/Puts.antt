@@ -1,35 +1,18 @@
 -- What laying out bytes, decimals and lines of them one after the other comes to. Assumes nothing.
-use Prim.Native.Nat.{ℕ, zero, suc, ◌+◌, ◌*◌, ◌-◌, ◌/◌, ◌%◌, ◌≤◌, ◌<◌}
+use Prim.Native.Nat.{ℕ, suc, ◌+◌, ◌*◌, ◌-◌, ◌/◌, ◌%◌, ◌≤◌, ◌<◌}
 use native.Mathlib.Omega.{arith}
 use native.Mathlib.Numerals.{add-one}
-use mathlib.Core.Path.{◌≡◌, refl, ◌∙◌}
+use mathlib.Core.Path.{◌≡◌}
 use mathlib.Core.List.{List, [], ◌∷◌, ◌++◌, append_assoc}
-use lib.ListN.{length, get_or, drop, set, length-set, length-drop, drop_of_length-le}
+use lib.ListN.{length, get_or, drop, set, length-drop, drop_of_length-le}
 use lib.Seq.{drop-cons}
 use mir.Syntax.{w32}
 use mir.Val.{Fits}
-use Rattle.text.specs.Printing.{bytes, ended, decimal, line, start_line, bad_line, too_long}
-use Rattle.text.specs.Laid.{Laid, Partly, none_yet, one_more, all_laid, one_laid, both_laid, laid_length}
+use Rattle.text.specs.Printing.{ended, decimal, line}
+use Rattle.text.specs.Laid.{Laid, Partly, one_more, all_laid, one_laid, both_laid, laid_length}
 use Rattle.text.specs.Decimals.{decimal_small, decimal_large, nine_digits}
 
--- ---- bytes
-pub bytes_none : (bytes out : List ℕ) (at : ℕ) → at + length bytes ≤ length out → Partly out at bytes out (at + 0) bytes
-bytes_none bytes out at h = let z : at + 0 ≡ at = omega arith in rw z (none_yet out at bytes (omega arith))
-
-module _ (bytes out : List ℕ) (at : ℕ) (now : List ℕ) (i : ℕ) (p : Partly out at bytes now (at + i) (drop i bytes)) where
-  pub byte_more : i < length bytes → at + length bytes ≤ length out → Partly out at bytes (set now (at + i) (get_or bytes i 0)) (at + (i + 1)) (drop (i + 1) bytes)
-  byte_more h k =
-      let n : at + i + 1 ≡ at + (i + 1) = omega arith in
-      rw (← n, add-one i) (one_more p (one_laid now (at + i) (get_or bytes i 0) (omega (arith, laid_length p.laid))) (drop-cons bytes i 0 h))
-
-  pub bytes_all : length bytes ≤ i → Laid out at bytes now (at + i)
-  bytes_all h = all_laid p (drop_of_length-le bytes h)
-
 -- ---- a decimal
-pub end_between : (left : ℕ) → (left ≡ 0 → ⊥) → 32 ≡ ended left
-end_between zero h = absurd (h refl)
-end_between (suc left) h = refl
-
 pub one_digit : (out : List ℕ) (at n : ℕ) → at + 10 ≤ length out → n < 10 → Laid out at (decimal n) (set out at (48 + n)) (at + 1)
 one_digit out at n h k = rw (decimal_small n k) (one_laid out at (48 + n) (omega arith))
 
@@ -43,23 +26,14 @@ module _ (out : List ℕ) (at n : ℕ) (mid : List ℕ) (e : ℕ) (l : Laid out 
   pub last_digit : 10 ≤ n → Laid out at (decimal n) (set mid e (48 + n % 10)) (e + 1)
   last_digit h = rw (decimal_large n h) (both_laid l (one_laid mid e (48 + n % 10) last_place))
 
-  pub last_long : length (set mid e (48 + n % 10)) ≡ length out
-  last_long = length-set mid e (48 + n % 10) ∙ laid_length l
-
   pub last_near : e + 1 ≤ at + 10
   last_near = omega (arith, l.ends, nine_digits n fits)
 
 -- ---- a line: the decimals from i on are left
-pub line_none : (words out : List ℕ) (at : ℕ) → at + 11 * length words ≤ length out → Partly out at (line words) out at (line words)
-line_none words out at h = none_yet out at (line words) (omega arith)
-
 module _ (words out : List ℕ) (at : ℕ) (now : List ℕ) (to i : ℕ) (p : Partly out at (line words) now to (line (drop i words))) where
   module _ (inside : i < length words) (room : at + 11 * length words ≤ length out) (near : to ≤ at + 11 * i) (mid : List ℕ) (e : ℕ) (l : Laid now to (decimal (get_or words i 0)) mid e) (short : e ≤ to + 10) where
     pub end_place : e < length mid
     end_place = omega (arith, laid_length l, laid_length p.laid)
-
-    pub end_long : (b : ℕ) → length (set mid e b) ≡ length out
-    end_long b = length-set mid e b ∙ laid_length l ∙ laid_length p.laid
 
     pub decimal_more : (b : ℕ) → b ≡ ended (length words - (i + 1)) → Partly out at (line words) (set mid e b) (e + 1) (line (drop (i + 1) words))
     unfolding line
@@ -72,17 +46,3 @@ module _ (words out : List ℕ) (at : ℕ) (now : List ℕ) (to i : ℕ) (p : Pa
   pub line_all : length words ≤ i → Laid out at (line words) now to
   unfolding line
   line_all h = all_laid p (rw (drop_of_length-le words h))
-
--- ---- texts with decimals
-module _ (out : List ℕ) (at : ℕ) (mid : List ℕ) (to : ℕ) (after : List ℕ) (end n : ℕ) (l : Laid mid to (line (n ∷ [])) after end) where
-  pub start_laid : Laid out at (bytes "start ") mid to → Laid out at (start_line n) after end
-  unfolding start_line
-  start_laid w = both_laid w l
-
-  pub bad_laid : Laid out at (bytes "bad line ") mid to → Laid out at (bad_line n) after end
-  unfolding bad_line
-  bad_laid w = both_laid w l
-
-pub too_long_laid : (out : List ℕ) (at : ℕ) (after : List ℕ) (to : ℕ) → Laid out at (bytes "too long\n") after to → Laid out at too_long after to
-unfolding too_long
-too_long_laid out at after to l = l

@@ -1,22 +1,18 @@
 -- Laying out a line for each step, and a line for each row. Assumes nothing.
 use Prim.Native.Nat.{ℕ, suc, ◌+◌, ◌*◌, ◌-◌, ◌≤◌, ◌<◌}
 use native.Mathlib.Omega.{arith}
-use native.Mathlib.Nat.{mul-zero, mul-suc, add-sub_cancel_left}
+use native.Mathlib.Nat.{mul-suc}
 use native.Mathlib.Numerals.{add-one}
 use mathlib.Core.Path.{◌≡◌, ◌∙◌, ap}
-use mathlib.Core.List.{List, [], ◌∷◌, flat_map}
-use lib.ListN.{length, get_or, take, drop, length-drop}
-use lib.Seq.{drop-drop, get_or-drop, get_or-take, length-take-le}
+use mathlib.Core.List.{List, [], ◌∷◌, ◌++◌, flat_map}
+use lib.ListN.{length, get_or, take, drop, drop_of_length-le}
+use lib.Seq.{drop-cons, drop-drop, get_or-drop, get_or-take}
 use Rattle.rules.specs.Lists.{cut}
 use Rattle.rules.specs.laws.Places.{cut-length}
-use Rattle.rules.specs.laws.Splice.{lent}
 use Rattle.text.specs.Printing.{bytes, decimal, line, step_lines, board_title, board_lines}
-use Rattle.text.specs.Laid.{Laid, Partly, none_yet, one_more, all_laid, both_laid}
+use Rattle.text.specs.Laid.{Laid, Partly, one_more, all_laid, both_laid}
 
 -- ---- parts of one size, from the i-th on
-parts_all : (n size : ℕ) (ws : List ℕ) → cut (n - 0) size (drop (size * 0) ws) ≡ cut n size ws
-parts_all n size ws = let z : n - 0 ≡ n = omega arith in rw (z, mul-zero size)
-
 parts_none : (n i size : ℕ) (ws : List ℕ) → n ≤ i → cut (n - i) size ws ≡ []
 parts_none n i size ws h = let z : n - i ≡ 0 = omega arith in rw z
 
@@ -37,9 +33,6 @@ module _ (steps answers : List ℕ) (n : ℕ) (out : List ℕ) (at : ℕ) where
   abbrev told : List ℕ
   told = step_lines (cut n 6 steps) answers
 
-  pub answers_none : at + 33 * n ≤ length out → Partly out at told out at (answers_left steps answers n 0)
-  answers_none h = rw (parts_all n 6 steps) (none_yet out at told (omega arith))
-
   module _ (now : List ℕ) (to i : ℕ) (p : Partly out at told now to (answers_left steps answers n i)) where
     pub answer_more : i < n → (after : List ℕ) (e : ℕ) → Laid now to (line (get_or steps (6 * i) 0 ∷ get_or answers (2 * i) 0 ∷ get_or answers (2 * i + 1) 0 ∷ [])) after e
         → Partly out at told after e (answers_left steps answers n (i + 1))
@@ -54,45 +47,21 @@ module _ (steps answers : List ℕ) (n : ℕ) (out : List ℕ) (at : ℕ) where
     answers_all h = all_laid p (rw (parts_none n i 6 (drop (6 * i) steps) h))
 
 -- ---- rows
-abbrev pub rows_left : List ℕ → ℕ → ℕ → List ℕ
-rows_left rows n i = flat_map line (cut (n - i) 5 (drop (5 * i) rows))
+module _ (rows : List ℕ) (n : ℕ) (out : List ℕ) (at : ℕ) (now : List ℕ) (to i : ℕ) (p : Partly out at (flat_map line (cut n 5 rows)) now to (flat_map line (drop i (cut n 5 rows)))) where
+  pub row_more : i < length (cut n 5 rows) → (after : List ℕ) (e : ℕ) → Laid now to (line (get_or (cut n 5 rows) i [])) after e → Partly out at (flat_map line (cut n 5 rows)) after e (flat_map line (drop (i + 1) (cut n 5 rows)))
+  unfolding flat_map
+  row_more h after e l = one_more p l (rw (drop-cons (cut n 5 rows) i [] h, add-one i))
 
-module _ (rows : List ℕ) (n : ℕ) (out : List ℕ) (at : ℕ) where
-  abbrev listed : List ℕ
-  listed = flat_map line (cut n 5 rows)
-
-  pub rows_none : at + 55 * n ≤ length out → Partly out at listed out at (rows_left rows n 0)
-  rows_none h = rw (parts_all n 5 rows) (none_yet out at listed (omega arith))
-
-  -- a row has five words
-  module _ (many : length rows ≡ 5 * n) (to i : ℕ) (inside : i < n) (near : to ≤ at + 55 * i) where
-    abbrev row : List ℕ
-    row = take (5 * i + 5 - 5 * i) (drop (5 * i) rows)
-
-    row_long : length row ≡ 5
-    row_long = rw (add-sub_cancel_left (5 * i) 5) (length-take-le 5 (drop (5 * i) rows) (simp length-drop (omega arith)))
-
-    pub row_room : (now : List ℕ) → length now ≡ length out → at + 55 * n ≤ length out → to + 11 * length row ≤ length now
-    row_room now k h = omega (arith, row_long)
-
-    pub row_near : (e : ℕ) → e ≤ to + 11 * length row → e ≤ at + 55 * (i + 1)
-    row_near e h = omega (arith, row_long)
-
-  module _ (now : List ℕ) (to i : ℕ) (p : Partly out at listed now to (rows_left rows n i)) where
-    pub row_more : i < n → (after : List ℕ) (e : ℕ) → Laid now to (line (take (5 * i + 5 - 5 * i) (drop (5 * i) rows))) after e → Partly out at listed after e (rows_left rows n (i + 1))
-    unfolding flat_map
-    row_more h after e l = one_more p l (rw (parts_next n i 5 rows h, lent rows (5 * i) 5))
-
-    pub rows_all : n ≤ i → Laid out at listed now to
-    unfolding flat_map
-    rows_all h = all_laid p (rw (parts_none n i 5 (drop (5 * i) rows) h))
+  pub rows_all : n ≤ i → Laid out at (flat_map line (cut n 5 rows)) now to
+  unfolding flat_map
+  rows_all h = all_laid p (rw (drop_of_length-le (cut n 5 rows) {i = i} (omega (arith, cut-length n 5 rows))))
 
 -- ---- a board
 module _ (out : List ℕ) (at : ℕ) where
-  pub title_laid : (o₁ : List ℕ) (a : ℕ) → Laid out at (bytes "board ") o₁ a → (i : ℕ) (o₂ : List ℕ) (b : ℕ) → Laid o₁ a (decimal i) o₂ b → (o₃ : List ℕ) (c : ℕ) → Laid o₂ b (bytes " rows ") o₃ c
-      → (n : ℕ) (after : List ℕ) (to : ℕ) → Laid o₃ c (line (n ∷ [])) after to → Laid out at (board_title i n) after to
+  pub title_laid : (o₁ : List ℕ) (a : ℕ) → Laid out at (bytes "board ") o₁ a → (i : ℕ) (o₂ : List ℕ) (b : ℕ) → Laid o₁ a (decimal i) o₂ b
+      → (n : ℕ) (after : List ℕ) (to : ℕ) → Laid o₂ b (bytes " rows " ++ line (n ∷ [])) after to → Laid out at (board_title i n) after to
   unfolding board_title
-  title_laid o₁ a k i o₂ b l o₃ c m n after to q = both_laid k (both_laid l (both_laid m q))
+  title_laid o₁ a k i o₂ b l n after to q = both_laid k (both_laid l q)
 
   pub board_laid : (i n : ℕ) (mid : List ℕ) (to : ℕ) → Laid out at (board_title i n) mid to → (rows after : List ℕ) (e : ℕ) → Laid mid to (flat_map line (cut n 5 rows)) after e
       → Laid out at (board_lines i (cut n 5 rows)) after e

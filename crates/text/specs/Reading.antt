@@ -1,9 +1,7 @@
 -- The program's input: lines, the decimals of a line, and which lines are bad.
-use Rattle.std.specs.Prelude.{ℕ, ◌+◌, ◌*◌, ◌-◌, Bool, cond, ◌&&◌, not, List, [], ◌∷◌, ◌++◌, map, eqb, leb, ltb, length, take}
+use Rattle.std.specs.Prelude.{ℕ, ◌+◌, ◌*◌, ◌-◌, Option, Some, None, Bool, cond, ◌&&◌, not, List, [], ◌∷◌, ◌++◌, map, eqb, leb, ltb, length, take}
 use Rattle.rules.specs.Lists.{all_of, every, first}
 use Rattle.rules.specs.Store.{limit}
-use Rattle.text.specs.declared.Number.{Number}
-use Rattle.text.specs.declared.Number.TheVariants.{Value, Bad}
 
 -- ---- bytes cut into parts
 -- x in front of the first part, or as the only one
@@ -45,8 +43,8 @@ unfoldable pub is_decimal : List ℕ → Bool
 is_decimal bs = all_of (ltb 0 (length bs) ∷ every is_digit bs ∷ leb (value bs) limit ∷ [])
 
 -- what reading a field answers
-unfoldable pub number_in : List ℕ → Number
-number_in bs = cond (is_decimal bs) (Value (value bs)) Bad
+unfoldable pub number_in : List ℕ → Option ℕ
+number_in bs = cond (is_decimal bs) (Some (value bs)) None
 
 -- ---- a line of n decimals
 unfoldable pub all_decimals : ℕ → List (List ℕ) → Bool

@@ -1,5 +1,5 @@
 -- A page of a tidy store as it is read. Assumes nothing.
-use Rattle.std.proofs.Common.{ℕ, suc, ◌+◌, ◌-◌, ◌≤◌, ◌<◌, arith, ◌≡◌, refl, ◌∙◌, ap, Bool, true, false, ◌&&◌, ◌||◌, eqb, leb, List, length, take, min, add-one}
+use Rattle.std.proofs.Common.{ℕ, suc, ◌+◌, ◌-◌, ◌≤◌, ◌<◌, arith, ◌≡◌, refl, ◌∙◌, ap, Bool, true, false, ◌&&◌, ◌||◌, eqb, leb, List, length, add-one}
 use Rattle.rules.specs.declared.PageNo.{PageNo}
 use Rattle.rules.specs.declared.Entry.{Entry}
 use Rattle.rules.specs.Boxes.{cover_of}
@@ -12,7 +12,6 @@ use Rattle.std.specs.Prelude.{get_or}
 use Rattle.page.specs.declared.Page.{Page}
 use Rattle.page.specs.Struct.{contents, laid_page, struct_at}
 use Rattle.page.specs.Laws.{laid_contents, laid_cover, struct_there}
-use Rattle.std.proofs.Math.Nat.{min-eq_right}
 use Rattle.std.proofs.lemmas.Bool.{le-leb}
 use Rattle.tidy.specs.Tidy.{TidyWords}
 use Rattle.tidy.specs.Laws.{pages_many}
@@ -37,15 +36,8 @@ module _ (w : List ℕ) (tidy : TidyWords w) where
   filled_so at = rw (le-leb _ 8 (tidy_few w tidy at))
 
 module _ (w : List ℕ) (tidy : TidyWords w) (at : PageNo) (g : Page) (read : g ≡ laid_page (page_at (store_of w).pages at)) where
-  pub few_read : g.count ≤ 8
-  unfolding laid_page
-  few_read = rw read (tidy_few w tidy at)
-
-  pub places_read : take g.count g.places ≡ (page_at (store_of w).pages at).places
-  unfolding contents
-  places_read =
-      let low : min 8 g.count ≡ g.count = min-eq_right few_read in
-      rw low at (ap (λ (c : Contents). c.places) (ap contents read ∙ laid_contents _ (tidy_few w tidy at)))
+  pub places_read : (used : List Entry) → used ≡ (contents g).places → used ≡ (page_at (store_of w).pages at).places
+  places_read used so = so ∙ ap (λ (c : Contents). c.places) (ap contents read ∙ laid_contents _ (tidy_few w tidy at))
 
 -- ---- page by page
 -- the pages from i to p

@@ -1,5 +1,5 @@
 -- What each way out of a walk, and each turn of it, comes to. Assumes nothing.
-use Rattle.std.proofs.Common.{ℕ, ◌+◌, ◌-◌, ◌≤◌, ◌<◌, arith, ◌≡◌, refl, sym, ◌∙◌, ap, Bool, true, false, not, List, eqb, length, get_or, set, take}
+use Rattle.std.proofs.Common.{ℕ, ◌+◌, ◌-◌, ◌≤◌, ◌<◌, arith, ◌≡◌, refl, sym, ◌∙◌, ap, Bool, true, false, not, List, eqb, length, get_or, set}
 use Rattle.std.proofs.lemmas.Bool.{not-true, not-false}
 use Rattle.std.proofs.Math.Bool.{false≢true}
 use Rattle.std.proofs.Math.ListN.{length-set}
@@ -10,7 +10,7 @@ use Rattle.rules.specs.Views.{PageInRange}
 use Rattle.rules.specs.Cleaning.{reached_under}
 use Rattle.rules.specs.laws.All.{all_at}
 use Rattle.page.specs.declared.Page.{Page}
-use Rattle.page.specs.Struct.{laid_page}
+use Rattle.page.specs.Struct.{contents, laid_page}
 use Rattle.tidy.specs.Laws.{pages_many}
 use Rattle.walk.specs.Walk.{flagged, ToWalk, Walked, Walking, walks, walks_all}
 use Rattle.walk.specs.Laws.{seen_before, leaf_walks, other_walks, inner_walks, inner_flags, child_passes, child_fails, all_walked, all_flagged}
@@ -61,7 +61,7 @@ module _ (w : List ℕ) (l : ℕ) (p : PageNo) (fs : List Bool) (to : ToWalk w l
             flags = long;
           }
 
-      module _ (high : l ≡ 1 → ⊥) (inner : g.kind ≡ 2) where
+      module _ (high : l ≡ 1 → ⊥) (inner : g.kind ≡ 2) (places : List Entry) (used : places ≡ (contents g).places) where
         level_2 : 2 ≤ l
         level_2 = let h = to.level in omega arith
 
@@ -69,12 +69,8 @@ module _ (w : List ℕ) (l : ℕ) (p : PageNo) (fs : List Bool) (to : ToWalk w l
         unfolding page_at
         page_range = all_at to.tidy.pages p.0 free_page to.inside
 
-        -- its used places
-        abbrev pub places : List Entry
-        places = take g.count g.places
-
         same : places ≡ (page_at (store_of w).pages p).places
-        same = places_read w to.tidy p g read
+        same = places_read w to.tidy p g read places used
 
         inner_so : walks (store_of w).pages l p fs ≡ walks_all (store_of w).pages (l - 1) places one
         inner_so = rw (same, set-one) (inner_walks (store_of w).pages p fs l level_2 unseen (sym kind_read ∙ inner))

@@ -33,7 +33,6 @@ fn visit(flags: &mut [bool], at: PageNo) -> bool
 
 // The pages under page `at`, inner down to the leaves at level 1, none of them flagged before. A flagged page ends the walk, so
 // that it is short on a damaged store too.
-#[tactic(auto, using(crate::proofs::Pages::few_read))]
 fn walk(store: &[u32], at: PageNo, level: u32, flags: &mut [bool]) -> bool
     requires { spec.ToWalk store.now level at flags.old }
     ensures { spec.Walked (rules.store_of store.now).pages level at flags.old result flags.new }
@@ -48,7 +47,7 @@ fn walk(store: &[u32], at: PageNo, level: u32, flags: &mut [bool]) -> bool
     if g.kind != Kind::Inner as u32 {
         return false;
     }
-    for place in &g.places[..g.count as usize] {
+    for place in g.used() {
         if !walk(store, PageNo(place.key), level - 1, flags) {
             return false;
         }
@@ -68,13 +67,12 @@ fn covers_child(store: &[u32], e: Entry) -> bool
 }
 
 // Each used place covers its child.
-#[tactic(auto, using(crate::proofs::Pages::few_read))]
 fn covers(store: &[u32], at: PageNo) -> bool
     requires { TidyWords store.now }
     ensures { result ≡ every (spec.covered (rules.store_of store.now).pages) (rules.page_at (rules.store_of store.now).pages at).places }
 {
-    let g = page_there(store, at);
-    g.places[..g.count as usize]
+    page_there(store, at)
+        .used()
         .iter()
         .all(|&place| covers_child(store, place))
 }

@@ -10,5 +10,5 @@ returns-in_default c = search (rules, none_covered)
 
 pub returns : goal.returns
 returns c =
-    some_covered c.args.g c.min.result c.min.ensures c.in-Some.first.now c.in-Some.others.now c.fold.result c.in-Some.ensures.cases.0
+    some_covered c.args.g c.used.result.now c.used.ensures c.in-Some.first.now c.in-Some.others.now c.fold.result c.in-Some.ensures.cases.0
     (fold_from_yields_List _ with_box _ c.fold.result c.fold.ensures.ran (YieldsList-from_slice c.in-Some.others.now c.iter.ensures.rest) (λ a x b q k. search (rules, tests)))

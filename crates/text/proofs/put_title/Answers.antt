@@ -1,4 +1,3 @@
--- `text::put_title` meets its contract. Assumes nothing.
 use Rattle.std.proofs.Common.{rules}
 use Rattle.text.proofs.Tables.{title_laid}
 use Rattle.text.proofs.put_title.Goals as goal

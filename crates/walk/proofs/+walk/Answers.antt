@@ -15,13 +15,13 @@ pub returns-then-g : goal.returns-then-g
 returns-then-g t c = page_other _ _ _ _ c.requires _ c.visit.ensures.flags_after (cc) _ c.page_there-g.ensures c.if-level-eq1.false c.if-g.true
 
 pub walk-requires : goal.walk-requires
-walk-requires t c = (omega arith, child_to_walk _ _ _ _ c.requires _ c.visit.ensures.flags_after (cc) _ c.page_there-g.ensures c.if-level-eq1.false c.if-g.false _ _ c.loop-place.invariant c.loop-place-test.true)
+walk-requires t c = (omega arith, child_to_walk _ _ _ _ c.requires _ c.visit.ensures.flags_after (cc) _ c.page_there-g.ensures c.if-level-eq1.false c.if-g.false _ c.used-place-items.ensures _ _ c.loop-place.invariant c.loop-place-test.true)
 
 pub returns-then-not-walk : goal.returns-then-not-walk
-returns-then-not-walk t c = child_bad _ _ _ _ c.requires _ c.visit.ensures.flags_after (cc) _ c.page_there-g.ensures c.if-level-eq1.false c.if-g.false _ _ c.loop-place.invariant c.loop-place-test.true _ _ c.walk.ensures c.if-not-walk.true
+returns-then-not-walk t c = child_bad _ _ _ _ c.requires _ c.visit.ensures.flags_after (cc) _ c.page_there-g.ensures c.if-level-eq1.false c.if-g.false _ c.used-place-items.ensures _ _ c.loop-place.invariant c.loop-place-test.true _ _ c.walk.ensures c.if-not-walk.true
 
 pub loop-place-preserved : goal.loop-place-preserved
-loop-place-preserved t c = child_good _ _ _ _ c.requires _ c.visit.ensures.flags_after (cc) _ c.page_there-g.ensures c.if-level-eq1.false c.if-g.false _ _ c.loop-place.invariant c.loop-place-test.true _ _ c.walk.ensures c.if-not-walk.false
+loop-place-preserved t c = child_good _ _ _ _ c.requires _ c.visit.ensures.flags_after (cc) _ c.page_there-g.ensures c.if-level-eq1.false c.if-g.false _ c.used-place-items.ensures _ _ c.loop-place.invariant c.loop-place-test.true _ _ c.walk.ensures c.if-not-walk.false
 
 pub returns : goal.returns
-returns t c = walk_ends _ _ _ _ c.requires _ c.visit.ensures.flags_after (cc) _ c.page_there-g.ensures c.if-level-eq1.false c.if-g.false _ _ c.loop-place.invariant c.loop-place-test.false
+returns t c = walk_ends _ _ _ _ c.requires _ c.visit.ensures.flags_after (cc) _ c.page_there-g.ensures c.if-level-eq1.false c.if-g.false _ c.used-place-items.ensures _ _ c.loop-place.invariant c.loop-place-test.false

@@ -1,4 +1,4 @@
-use Rattle.std.proofs.Common.{rules, take}
+use Rattle.std.proofs.Common.{rules}
 use Rattle.std.proofs.lemmas.Iterator.{YieldsList-from_slice}
 use Rattle.std.proofs.lemmas.Iterator.Search.{all_from_yields_List}
 use borrow.Author.Tests.{tests}
@@ -9,6 +9,5 @@ use Rattle.walk.proofs.covers.Goals as goal
 
 pub returns : goal.returns
 returns c =
-    let g = c.page_there-g.result in
-    rw (← places_read _ c.requires c.args.at _ c.page_there-g.ensures)
-    (all_from_yields_List (covered (store_of c.args.store.now).pages) _ _ _ c.all.ensures.ran (YieldsList-from_slice (take g.count g.places) cc) (λ x b q k. search (rules, tests)))
+    rw (← places_read _ c.requires c.args.at _ c.page_there.ensures _ c.used.ensures)
+    (all_from_yields_List (covered (store_of c.args.store.now).pages) _ _ _ c.all.ensures.ran (YieldsList-from_slice c.used.result.now cc) (λ x b q k. search (rules, tests)))

@@ -1,0 +1,13 @@
+-- The steps from i on are left.
+use Rattle.std.proofs.Common.{◌+◌, ◌*◌, ◌≤◌}
+use Rattle.rules.specs.Lists.{cut}
+use Rattle.text.specs.Printing.{step_lines}
+use Rattle.text.specs.Laid.{Partly}
+use Rattle.text.proofs.Tables.{answers_left}
+use Rattle.text.proofs.put_answers.Given as goal
+
+abbrev pub invariant-loop-i : goal.invariant-loop-i
+invariant-loop-i l = record {
+  near : l.to ≤ l.at + 33 * l.i;
+  left : Partly l.initial.out l.at (step_lines (cut l.n 6 l.steps) l.answers) l.out l.to (answers_left l.steps l.answers l.n l.i);
+}
