@@ -110,8 +110,8 @@ module _ (w : List ℕ) (r : Row) where
 
 -- ---- a withdrawal
 module _ (w : List ℕ) (t : Train) (o : Bool) (its : o ≡ is_open (board_of w)) where
-  pub closed-untold : BoardWords w → o ≡ false → w ≡ board_words (untold t (board_of w))
-  closed-untold is e = sym (rw (untold-closed t (board_of w) (sym its ∙ e)) is.same)
+  pub closed_untold : BoardWords w → o ≡ false → w ≡ board_words (untold t (board_of w))
+  closed_untold is e = sym (rw (untold-closed t (board_of w) (sym its ∙ e)) is.same)
 
   pub open_untold : (u : List ℕ) → o ≡ true → u ≡ board_words (with_rows (row_removed t (board_of w).rows) (board_of w)) → u ≡ board_words (untold t (board_of w))
   open_untold u e h = rw (untold_open t (board_of w) (sym its ∙ e)) h

@@ -170,25 +170,23 @@ module _ (w : List ℕ) (is : BoardWords w) where
       (lent_back w (6 + 5 * i) 5 ws ∙ ap (splice w (6 + 5 * i) 5) e ∙ ap (λ l. splice l (6 + 5 * i) 5 (row_words r)) (sym is.same) ∙ sym (row_written (board_of w) is.few i inside r))
       (rw length-set is.few)
 
-  pub row_in : (i n : ℕ) (r : Row) (v ws : List ℕ) → i ≤ length (board_of w).rows → n ≡ length (board_of w).rows → length (board_of w).rows < row_limit
-      → v ≡ copy_within w (6 + 5 * i) (6 + 5 * n) (6 + 5 * i + 5) → ws ≡ row_words r
-      → Became w (put (board_of w).rows i r) (set (put_mid (6 + 5 * i) (6 + 5 * i + 5 - (6 + 5 * i)) v ws) 5 (n + 1))
-  row_in i n r v ws h e room ev ew =
+  pub row_in : (i n a l : ℕ) (r : Row) (v ws : List ℕ) → i ≤ length (board_of w).rows → n ≡ length (board_of w).rows → a ≡ 6 + 5 * i → l ≡ 6 + 5 * n
+      → length (board_of w).rows < row_limit → v ≡ copy_within w a l (a + 5) → ws ≡ row_words r
+      → Became w (put (board_of w).rows i r) (set (put_mid a (a + 5 - a) v ws) 5 (n + 1))
+  row_in i n a l r v ws h e ea el room ev ew =
       let more = put-length (board_of w).rows i r h in
-      rw (ev, ew, e) (became w _ _ (put_in (board_of w) (board_of w).rows w (whole w is) is.long i r h room) (omega arith))
+      rw (ev, ew, ea, el, e) (became w _ _ (put_in (board_of w) (board_of w).rows w (whole w is) is.long i r h room) (omega arith))
 
-  pub row_out : (i n : ℕ) (v ws : List ℕ) → i < length (board_of w).rows → n ≡ length (board_of w).rows
-      → v ≡ copy_within w (6 + 5 * i + 5) (6 + 5 * (n - 1) + 5) (6 + 5 * i) → length v ≡ length w
-      → ws ≡ replicate (length (take (6 + 5 * (n - 1) + 5 - (6 + 5 * (n - 1))) (drop (6 + 5 * (n - 1)) v))) 0
-      → Became w (without (board_of w).rows i) (set (put_mid (6 + 5 * (n - 1)) (6 + 5 * (n - 1) + 5 - (6 + 5 * (n - 1))) v ws) 5 (n - 1))
-  row_out i n v ws h e ev lv ew =
-      let last : ℕ = 6 + 5 * (n - 1) in
+  pub row_out : (i n a l : ℕ) (v ws : List ℕ) → i < length (board_of w).rows → n ≡ length (board_of w).rows → a ≡ 6 + 5 * i → l ≡ 6 + 5 * (n - 1)
+      → v ≡ copy_within w (a + 5) (l + 5) a → length v ≡ length w → ws ≡ replicate (length (take (l + 5 - l) (drop l v))) 0
+      → Became w (without (board_of w).rows i) (set (put_mid l (l + 5 - l) v ws) 5 (n - 1))
+  row_out i n a l v ws h e ea el ev lv ew =
       let fewer = without-length (board_of w).rows i h in
       let few = is.few in
       let long = is.long in
-      let five : length (take (last + 5 - last) (drop last v)) ≡ 5 = length-take-le (last + 5 - last) (drop last v) (omega (arith, length-drop last v)) ∙ omega arith in
+      let five : length (take (l + 5 - l) (drop l v)) ≡ 5 = length-take-le (l + 5 - l) (drop l v) (omega (arith, length-drop l v)) ∙ omega arith in
       let zero_words : ws ≡ replicate 5 0 = ew ∙ ap (λ k. replicate k 0) five in
-      rw (zero_words, ev) (became w _ _ (taken_out (board_of w) (board_of w).rows w (whole w is) is.long i (n - 1) (omega arith) (omega arith) (omega arith)) (omega arith))
+      rw (zero_words, ev, ea, el) (became w _ _ (taken_out (board_of w) (board_of w).rows w (whole w is) is.long i (n - 1) (omega arith) (omega arith) (omega arith)) (omega arith))
 
 -- ---- a closed board, and an open one with no rows
 pub cleared : (w : List ℕ) → length w ≡ 86 → replicate (length w) 0 ≡ board_words closed

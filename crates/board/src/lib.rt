@@ -1,87 +1,38 @@
 // Boards: one board's own part of the store, 86 words: its window, whether it is open, how many rows it has, and sixteen rows.
 #![tactic(auto)]
 
-ghost use Rattle.std.specs.Prelude.{◌≡◌, ◌≤◌, ◌<◌, [], length, get_or, set};
+ghost use Rattle.std.specs.Prelude.{◌≡◌, ◌+◌, ◌*◌, ◌≤◌, ◌<◌, [], length, set};
 ghost use Rattle.rules.specs.Lists.{without};
-ghost use Rattle.rules.specs.Store.{closed, row_limit, row_words, board_words, board_of};
+ghost use Rattle.rules.specs.Store.{closed, row_limit, board_words, board_of};
 ghost use Rattle.rules.specs.Live.{row_inserted, row_removed};
 ghost use Rattle.rules.specs.Boards as rules;
 ghost use Rattle.rules.specs.laws.Rows.{RowsAscend};
-ghost use Rattle.rules.specs.laws.Parts.{no_row};
 ghost use Rattle.board.specs.Rows as spec;
+
+mod view;
 
 use rules::part::Part;
 use rules::{Row, Train, Window};
-use std::cmp::Ordering;
+pub use view::Board;
 
-// ---- what a board says
-
-#[tactic(auto, unfolding(rules::specs::Store::board_of))]
-pub fn window(b: &[u32]) -> Window
-    requires { spec.BoardWords b.now }
-    ensures { result ≡ (board_of b.now).window }
-{
-    Window::read(b)
-}
-
-#[tactic(auto, unfolding(rules::specs::Store::board_of))]
-pub fn is_open(b: &[u32]) -> bool
-    requires { spec.BoardWords b.now }
-    ensures { result ≡ rules.is_open (board_of b.now) }
-{
-    b[4] == 1
-}
-
-#[tactic(auto, using(crate::proofs::Words::count_read))]
-pub fn row_count(b: &[u32]) -> usize
-    requires { spec.BoardWords b.now }
-    ensures { (result ≡ length (board_of b.now).rows) × (result ≤ row_limit) }
-{
-    b[5] as usize
-}
-
-#[tactic(auto, using(crate::proofs::Words::row_read))]
-pub fn row_at(b: &[u32], i: usize) -> Row
-    requires { spec.BoardWords b.now × (i < length (board_of b.now).rows) }
-    ensures { result ≡ get_or (board_of b.now).rows i no_row }
-{
-    Row::read(&b[6 + 5 * i..])
-}
-
-// Where the train's row stands, or, where it has none, where it would come in ascending order.
-// The place is looked for from the first row on: sixteen rows are too few for a search by halves to pay.
-pub fn place_of(b: &[u32], t: Train) -> Result<usize, usize>
-    requires { spec.BoardWords b.now }
-    ensures { result ≡ spec.row_place t (board_of b.now).rows }
-{
-    let n = row_count(b);
-    for i in 0..n {
-        match t.cmp(&row_at(b, i).train) {
-            Ordering::Less => return Err(i),
-            Ordering::Equal => return Ok(i),
-            Ordering::Greater => {}
-        }
-    }
-    Err(n)
-}
-
-// Whether the train has a row; where rows ascend, that shows at its place.
-#[tactic(auto, using(crate::proofs::Upkeep::listed_true, crate::proofs::Upkeep::unlisted_false))]
-pub fn lists(b: &[u32], t: Train) -> bool
-    requires { spec.BoardWords b.now × RowsAscend (board_of b.now).rows }
-    ensures { result ≡ rules.lists t (board_of b.now) }
-{
-    place_of(b, t).is_ok()
-}
+// What writes a board takes its words and its `requires`: a struct over `&mut` would need a clause for each field at every method in its place.
 
 // ---- rows written
+
+// The word with which row i starts; with the count for i, where they end.
+fn row_start(i: usize) -> usize
+    requires { i ≤ row_limit }
+    ensures { result ≡ 6 + 5 * i }
+{
+    6 + 5 * i
+}
 
 // Another row in place i.
 fn put_row(b: &mut [u32], i: usize, r: Row)
     requires { spec.BoardWords b.old × (i < length (board_of b.old).rows) }
     ensures { spec.Became b.old (set (board_of b.old).rows i r) b.new }
 {
-    let a = 6 + 5 * i;
+    let a = row_start(i);
     r.write(&mut b[a..a + 5]);
 }
 
@@ -90,9 +41,9 @@ fn insert_at(b: &mut [u32], i: usize, r: Row)
     requires { spec.BoardWords b.old × (i ≤ length (board_of b.old).rows) × (length (board_of b.old).rows < row_limit) }
     ensures { spec.Became b.old (spec.put (board_of b.old).rows i r) b.new }
 {
-    let n = row_count(b);
-    let a = 6 + 5 * i;
-    b.copy_within(a..6 + 5 * n, a + 5);
+    let n = Board { words: b }.row_count();
+    let a = row_start(i);
+    b.copy_within(a..row_start(n), a + 5);
     r.write(&mut b[a..a + 5]);
     b[5] = (n + 1) as u32;
 }
@@ -102,9 +53,9 @@ fn remove_at(b: &mut [u32], i: usize)
     requires { spec.BoardWords b.old × (i < length (board_of b.old).rows) }
     ensures { spec.Became b.old (without (board_of b.old).rows i) b.new }
 {
-    let n = row_count(b) - 1;
-    let a = 6 + 5 * i;
-    let last = 6 + 5 * n;
+    let n = Board { words: b }.row_count() - 1;
+    let a = row_start(i);
+    let last = row_start(n);
     b.copy_within(a + 5..last + 5, a);
     b[last..last + 5].fill(0);
     b[5] = n as u32;
@@ -116,7 +67,8 @@ pub fn insert(b: &mut [u32], r: Row)
     requires { spec.BoardWords b.old × (length (row_inserted r (board_of b.old).rows) ≤ row_limit) }
     ensures { b.new ≡ board_words (rules.with_rows (row_inserted r (board_of b.old).rows) (board_of b.old)) }
 {
-    match place_of(b, r.train) {
+    let board = Board { words: b };
+    match board.place_of(r.train) {
         Ok(i) => put_row(b, i, r),
         Err(i) => insert_at(b, i, r),
     }
@@ -128,7 +80,8 @@ pub fn remove(b: &mut [u32], t: Train)
     requires { spec.BoardWords b.old × RowsAscend (board_of b.old).rows }
     ensures { b.new ≡ board_words (rules.with_rows (row_removed t (board_of b.old).rows) (board_of b.old)) }
 {
-    if let Ok(i) = place_of(b, t) {
+    let board = Board { words: b };
+    if let Ok(i) = board.place_of(t) {
         remove_at(b, i);
     }
 }
@@ -162,10 +115,11 @@ pub fn tell(b: &mut [u32], r: Row)
     requires { spec.BoardWords b.old × RowsAscend (board_of b.old).rows × (length (rules.told r (board_of b.old)).rows ≤ row_limit) }
     ensures { b.new ≡ board_words (rules.told r (board_of b.old)) }
 {
-    if !is_open(b) {
+    let board = Board { words: b };
+    if !board.is_open() {
         return;
     }
-    if boxes::meets(r.bounds, window(b)) {
+    if boxes::meets(r.bounds, board.window()) {
         insert(b, r);
     } else {
         remove(b, r.train);
@@ -173,23 +127,13 @@ pub fn tell(b: &mut [u32], r: Row)
 }
 
 // After a withdrawal: on an open board the train has no row.
+#[tactic(auto, using(crate::proofs::Upkeep::open_untold, crate::proofs::Upkeep::closed_untold))]
 pub fn untell(b: &mut [u32], t: Train)
     requires { spec.BoardWords b.old × RowsAscend (board_of b.old).rows }
     ensures { b.new ≡ board_words (rules.untold t (board_of b.old)) }
 {
-    if is_open(b) {
+    let board = Board { words: b };
+    if board.is_open() {
         remove(b, t);
     }
-}
-
-// A report would need a seventeenth row: sixteen are there, none is the train's, and its box meets the open board's window.
-#[tactic(auto, using(crate::proofs::Upkeep::few_rows, crate::proofs::Upkeep::closed_full, crate::proofs::Upkeep::missed_full, crate::proofs::Upkeep::listed_full, crate::proofs::Upkeep::unlisted_full))]
-pub fn is_overfull(b: &[u32], r: Row) -> bool
-    requires { spec.BoardWords b.now }
-    ensures { result ≡ rules.overfull r (board_of b.now) }
-{
-    row_count(b) == 16
-        && is_open(b)
-        && boxes::meets(r.bounds, window(b))
-        && place_of(b, r.train).is_err()
 }

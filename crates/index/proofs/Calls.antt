@@ -9,7 +9,7 @@ use mathlib.Core.List.{flat_map}
 use Rattle.rules.specs.declared.Window.{Window}
 use Rattle.rules.specs.declared.refusal.Refusal.{Refusal as Reason}
 use Rattle.rules.specs.Boxes.{proper_window}
-use Rattle.rules.specs.Store.{board_at, board_of, row_words, store_of}
+use Rattle.rules.specs.Store.{Board, board_at, row_words, store_of}
 use Rattle.rules.specs.Live.{rows_in}
 use Rattle.rules.specs.Boards.{is_open}
 use Rattle.rules.specs.Sound.{sound_words}
@@ -118,10 +118,9 @@ module _ (v : List ℕ) (i : ℕ) (z : 0 ≡ board_test v i) where
   pub part_board : i < length (store_of v).boards
   part_board = read_inside v i (sym z)
 
-  pub part_found : (a n : ℕ) → BoardAt v i a → n ≡ length (board_of (take (a + 86 - a) (drop a v))).rows
-      → board_part v i ≡ record { number = 0; from = a + 6; to = a + 6 + 5 * n }
+  pub part_found : (a n : ℕ) (b : Board) → BoardAt v i a → b ≡ board_at (store_of v) i → n ≡ length b.rows → board_part v i ≡ record { number = 0; from = a + 6; to = a + 6 + 5 * n }
   unfolding board_part part_by
-  part_found a n at many = rw (sym z, ← at.starts, ← at.there, many)
+  part_found a n b at here many = rw (sym z, ← at.starts, ← here, many)
 
 -- the part is that of the answer, or empty
 module _ (v : List ℕ) (i : ℕ) (r : Result (Range ℕ) Reason) (e : board_part v i ≡ part_of_answer r) (q : Range ℕ) (or_none : q ≡ result_unwrap_or r (record { start = 0; end = 0 })) where

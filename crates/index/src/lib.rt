@@ -138,9 +138,9 @@ pub fn board_part(store: &[u32], i: u32) -> Result<Range<usize>, Refusal>
     ensures { spec_rows.board_part store.now i ≡ spec_rows.part_of_answer result }
 {
     board_test(store, i)?;
-    let start = parts::board_start(store, i as usize);
-    let from = start + 6;
-    Ok(from..from + 5 * board::row_count(&store[start..start + 86]))
+    let i = i as usize;
+    let from = parts::board_start(store, i) + 6;
+    Ok(from..from + 5 * parts::board_at(store, i).row_count())
 }
 
 // Board i's rows as they stand in the store, or an empty part where the test refuses.

@@ -21,6 +21,7 @@ ghost use Rattle.parts.specs.MemoAt.{MemoAt};
 ghost use Rattle.parts.specs.Promises.{Freed, touch, Told, ToldAll};
 ghost use Rattle.parts.specs.Promises as promises;
 
+use board::Board;
 use page::Page;
 use rules::{LookUp, Row, Stamp, Train, Window};
 use std::ops::Range;
@@ -114,12 +115,23 @@ fn board_range(store: &[u32], i: usize) -> Range<usize>
     start..start + 86
 }
 
+// Board i, lent to be read.
+pub fn board_at(store: &[u32], i: usize) -> Board<'_>
+    requires placed { Placed store.now }
+    requires i_in_bounds { i < length (store_of store.now).boards }
+    ensures { board_of result.words.now ≡ board_at (store_of store.now) i }
+{
+    Board {
+        words: &store[board_range(store, i)],
+    }
+}
+
 pub fn is_open(store: &[u32], i: usize) -> bool
     requires placed { Placed store.now }
     requires i_in_bounds { i < length (store_of store.now).boards }
     ensures { result ≡ rules.is_open (board_at (store_of store.now) i) }
 {
-    board::is_open(&store[board_range(store, i)])
+    board_at(store, i).is_open()
 }
 
 // Whether a report of this row would need a seventeenth row on some board.
@@ -129,7 +141,7 @@ pub fn any_overfull(store: &[u32], r: Row) -> bool
     ensures { result ≡ some_one (rules.overfull r) (store_of store.now).boards }
 {
     for i in 0..header::boards(store) {
-        if board::is_overfull(&store[board_range(store, i)], r) {
+        if board_at(store, i).is_overfull(r) {
             return true;
         }
     }
@@ -138,13 +150,11 @@ pub fn any_overfull(store: &[u32], r: Row) -> bool
 
 // 1 if a report of this row touches the board: it is open, and lists the train before, or after where the new box meets its window.
 #[tactic(auto, using(crate::proofs::Boards::touch_told))]
-fn touches(b: &[u32], r: Row) -> usize
-    requires { BoardWords b.now × RowsAscend (board_of b.now).rows }
-    ensures { result ≡ touch r.train (board_of b.now) (rules.told r (board_of b.now)) }
+fn touches(board: &Board<'_>, r: Row) -> usize
+    requires { RowsAscend (board_of board.now.words.now).rows }
+    ensures { result ≡ touch r.train (board_of board.now.words.now) (rules.told r (board_of board.now.words.now)) }
 {
-    usize::from(
-        board::is_open(b) && (board::lists(b, r.train) || boxes::meets(r.bounds, board::window(b))),
-    )
+    usize::from(board.is_open() && (board.lists(r.train) || boxes::meets(r.bounds, board.window())))
 }
 
 // What every board is told of: a report, by its row, or a withdrawal, by its train.
@@ -167,7 +177,7 @@ impl News for Row {
 
     // Whether the report touches the board is tried before its rows change.
     fn tell(self, b: &mut [u32]) -> usize {
-        let touched = touches(b, self);
+        let touched = touches(&Board { words: b }, self);
         board::tell(b, self);
         touched
     }
@@ -180,7 +190,8 @@ impl News for Train {
 
     // The board lists the train no more, so what it listed before decides.
     fn tell(self, b: &mut [u32]) -> usize {
-        if board::is_open(b) && board::lists(b, self) {
+        let board = Board { words: b };
+        if board.is_open() && board.lists(self) {
             board::untell(b, self);
             1
         } else {

@@ -11,5 +11,5 @@ pub loop-i-preserved : goal.loop-i-preserved
 unfolding same_words row_words box_words
 loop-i-preserved c =
     let i = c.loop-i.i in
-    let same : same_words (row_words (get_or (board_of c.args.b.now).rows i no_row)) (row_words (row_of_key (store_of c.args.store.now).pages (get_or c.args.keys.now i 0))) ≡ true = grind (arith, nat_tests) in
+    let same : same_words (row_words (get_or (board_of c.args.board.now.words.now).rows i no_row)) (row_words (row_of_key (store_of c.args.store.now).pages (get_or c.args.keys.now i 0))) ≡ true = grind (arith, nat_tests) in
     grind (arith, nat_tests, rows_more)

@@ -7,5 +7,5 @@ use Rattle.watch.proofs.rows_match.Given as goal
 -- the rows from i on decide
 abbrev pub invariant-loop-i : goal.invariant-loop-i
 invariant-loop-i l =
-    same_rows (drop l.i (board_of l.b).rows) (map (row_of_key (store_of l.store).pages) (drop l.i l.keys))
-    ≡ same_rows (board_of l.b).rows (map (row_of_key (store_of l.store).pages) l.keys)
+    same_rows (drop l.i (board_of l.board.words.now).rows) (map (row_of_key (store_of l.store).pages) (drop l.i l.keys))
+    ≡ same_rows (board_of l.board.words.now).rows (map (row_of_key (store_of l.store).pages) l.keys)

@@ -1,7 +1,7 @@
--- `board::place_of` meets its contract. Assumes nothing.
+-- `board::view::Board::place_of` meets its contract. Assumes nothing.
 use Rattle.std.proofs.Common.{rules}
 use Rattle.board.proofs.Place.{from_first, before_row, at_row, past_row, past_last}
-use Rattle.board.proofs.place_of.Goals as goal
+use Rattle.board.proofs.view.Board.place_of.Goals as goal
 
 pub returns-in-Less : goal.returns-in-Less
 returns-in-Less c = before_row _ _ _ c.loop-i.invariant _ (search rules) c.row_at.ensures c.in-Less.ensures
