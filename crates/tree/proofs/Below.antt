@@ -22,7 +22,7 @@ use Rattle.page.specs.Struct.{contents, laid_page, struct_at, with_struct, with_
 use Rattle.page.specs.Laws.{laid_contents, laid_set}
 use Rattle.split.specs.Split.{Chosen}
 use Rattle.std.specs.Prelude.{Option, Some, None, IfSome, unwrap_or}
-use Rattle.tree.specs.Putting.{Ready, Laid, Wrote, Put, answer, result, settled_in, renewed_in, picked, child_in, with_entry}
+use Rattle.tree.specs.Putting.{Ready, page_count, Laid, Wrote, Put, answer, result, settled_in, renewed_in, picked, child_in, with_entry}
 use Rattle.tree.specs.Laws.{laid_few, laid_count, laid_used, laid_at, laid_of, read-contents, child_proper, page-put, wrote_then, wrote_pages}
 
 -- ---- the place picked
@@ -144,13 +144,13 @@ module _ (p : ℕ) (w : List ℕ) (h : Ready p w) (at : PageNo) (e : Entry) (g :
     chosen : c ≡ child_of (get_or (contents g).places (choose its_box e.bounds (contents g).places) no_place)
     chosen = rw (found, best, picked_place e.bounds (contents g).places) refl
 
-    one_up : (r : Result) (w₁ : List ℕ) (a₁ : Option PageNo) (w' : List ℕ) (a : Option PageNo) → Put p w r w₁ a₁ → Put p w₁ (renewed_in w₁ at g i c a₁) w' a
+    one_up : (r : Result) (w₁ : List ℕ) (a₁ : Option PageNo) (w' : List ℕ) (a : Option PageNo) → Put p w r w₁ a₁ → Put (page_count w₁) w₁ (renewed_in w₁ at g i c a₁) w' a
         → Put p w (settled (pages_in r) at (contents g) (renewed (contents g).places (choose its_box e.bounds (contents g).places) c r)) w' a
     one_up r w₁ a₁ w' a one t =
-        put_then one.pages (rw (wrote_pages one.pages, one.answers, result_back r, best, picked_renewed e.bounds (contents g).places c r) at t)
+        put_then one.pages (rw (one.pages.ready.counted, wrote_pages one.pages, one.answers, result_back r, best, picked_renewed e.bounds (contents g).places c r) at t)
 
     pub below_deeper : (depth : ℕ) (w₁ : List ℕ) (a₁ : Option PageNo) (w' : List ℕ) (a : Option PageNo) → (depth ≡ 0 → ⊥)
-        → Put p w (put_below (depth - 1) (store_of w).pages c e) w₁ a₁ → Put p w₁ (renewed_in w₁ at g i c a₁) w' a
+        → Put p w (put_below (depth - 1) (store_of w).pages c e) w₁ a₁ → Put (page_count w₁) w₁ (renewed_in w₁ at g i c a₁) w' a
         → Put p w (put_below depth (store_of w).pages at e) w' a
     unfolding put_below
     below_deeper zero w₁ a₁ w' a n one t = absurd (n refl)

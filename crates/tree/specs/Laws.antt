@@ -16,7 +16,7 @@ use Rattle.rules.specs.laws.Header.{root_there, levels_there, pages_there}
 use Rattle.page.specs.declared.Page.{Page}
 use Rattle.page.specs.Struct.{contents, laid_page, struct_at, with_struct}
 use Rattle.page.specs.Laws.{laid_contents, laid_places, laid_place, pages_length, struct_there, struct_written}
-use Rattle.tree.specs.Putting.{ProperPlaces, Ready, Laid, Wrote, Grown, with_tree}
+use Rattle.tree.specs.Putting.{ProperPlaces, Ready, page_count, IsReady, Laid, Wrote, Grown, with_tree}
 
 -- ---- words and back
 pub ready_words : (p : ℕ) (s : Store) → Fits s → length s.pages ≡ p → p ≤ 192 → All (λ g. ProperPlaces g.places) s.pages → Ready p (words s)
@@ -104,8 +104,15 @@ module _ (p : ℕ) (w : List ℕ) (h : Ready p w) where
   child_proper c = cover_of_all_proper its_box (page_at (store_of w).pages c).places (page_proper c)
 
 -- p may be read from the words
+pub count_read : (w : List ℕ) (n : ℕ) → IsReady w → n ≡ get_or w 5 0 → n ≡ page_count w
+count_read w n h e = e ∙ rw h.written at (pages_there (store_of w))
+
 pub ready_count : (w : List ℕ) (n : ℕ) → Ready (length (store_of w).pages) w → n ≡ get_or w 5 0 → Ready n w
-ready_count w n h e = rw (e ∙ rw h.written at (pages_there (store_of w))) h
+ready_count w n h e = rw (count_read w n h e) h
+
+-- and is the number of pages
+pub ready_own : (p : ℕ) (w : List ℕ) → Ready p w → IsReady w
+ready_own p w h = rw h.counted h
 
 -- ---- written
 -- a page is replaced

@@ -26,6 +26,13 @@ pub record Ready (p : ℕ) (w : List ℕ) : Type 0 where
   pub most : p ≤ 192
   pub proper : All (λ g. ProperPlaces g.places) (store_of w).pages
 
+-- those of a store of as many pages as it has
+abbrev pub page_count : List ℕ → ℕ
+page_count w = length (store_of w).pages
+
+abbrev pub IsReady : List ℕ → Type 0
+IsReady w = Ready (page_count w) w
+
 -- a page struct whose unused places are zero and whose used ones have proper boxes
 pub record Laid (g : Page) : Type 0 where
   pub laid : g ≡ laid_page (contents g)
