@@ -1,5 +1,5 @@
 -- Taking out what is thin: the leaf, a page once its child has been trimmed, and the way down to the leaf. Assumes nothing.
-use Prim.Native.Nat.{ℕ, zero, suc, ◌+◌, ◌*◌, ◌-◌, ◌≤◌, ◌<◌}
+use Prim.Native.Nat.{ℕ, zero, suc, ◌-◌, ◌≤◌, ◌<◌}
 use native.Mathlib.Omega.{arith}
 use mathlib.Core.Path.{◌≡◌, refl, sym, subst, ◌∙◌, ap, ap₂}
 use mathlib.Core.Bool.{Bool}
@@ -23,8 +23,8 @@ use Rattle.rules.specs.laws.Places.{without-length}
 use Rattle.page.specs.declared.Page.{Page}
 use Rattle.page.specs.Struct.{contents, laid_page, struct_at, with_struct, with_place, removed}
 use Rattle.page.specs.Laws.{laid_set, laid_removed}
-use Rattle.tree.specs.Putting.{ProperPlaces, Ready, Laid, Wrote}
-use Rattle.tree.specs.Laws.{laid_few, laid_count, laid_used, laid_at, room, page_few, page_proper, child_proper, read_laid, read-contents, page-put, wrote_then, wrote_pages}
+use Rattle.tree.specs.Putting.{ProperPlaces, Ready, page_count, IsReady, Laid, Wrote}
+use Rattle.tree.specs.Laws.{laid_few, laid_count, laid_used, laid_at, ready_own, page_few, page_proper, child_proper, read_laid, read-contents, page-put, wrote_then, wrote_pages}
 use Rattle.trim.specs.declared.Orphan.{Orphan}
 use Rattle.trim.proofs.Ways.{place_found, some_found}
 use Rattle.trim.specs.Trimming.{Readable, page_kept, leads_to, way, LeafBelow, waiting, held_by, at_level, wait_at, Placeable, Waits, trimmed_in, so_far, child_freed, child_renewed, trimmed_place, TrimmedTo}
@@ -55,15 +55,15 @@ module _ (p : ℕ) (w : List ℕ) (h : Ready p w) (at : PageNo) (g : Page) (l : 
     child_gone : Wrote p w (put_page (store_of w).pages c free_page) w₁
     child_gone = rw (e₁, ex) (page-put p w h c free_page (omega arith) none)
 
-    pub freed_room : 16 + 52 * p ≤ length w₁
-    freed_room = room p w₁ child_gone.ready
+    pub freed_ready : IsReady w₁
+    freed_ready = ready_own p w₁ child_gone.ready
 
-    pub freed : (y : Page) (w₂ : List ℕ) → y ≡ removed g i → w₂ ≡ with_struct w₁ p at y → Wrote p w (child_freed (store_of w).pages at (contents g) i c) w₂
+    pub freed : (y : Page) (w₂ : List ℕ) → y ≡ removed g i → w₂ ≡ with_struct w₁ (page_count w₁) at y → Wrote p w (child_freed (store_of w).pages at (contents g) i c) w₂
     freed y w₂ ey e₂ =
         let es = without (contents g).places i in
         let laid : y ≡ laid_page (with_places (contents g) es) = ey ∙ ap (λ g. removed g i) l.laid ∙ laid_removed (contents g) (laid_few g l) i inside in
         let few : length es ≤ 8 = omega (arith, without-length (contents g).places i inside, laid_few g l) in
-        let second : Wrote p w₁ (put_page (store_of w₁).pages at (with_places (contents g) es)) w₂ = rw (e₂, laid) (page-put p w₁ child_gone.ready at (with_places (contents g) es) few (all_without (contents g).places i l.proper)) in
+        let second : Wrote p w₁ (put_page (store_of w₁).pages at (with_places (contents g) es)) w₂ = rw (e₂, laid, child_gone.ready.counted) (page-put p w₁ child_gone.ready at (with_places (contents g) es) few (all_without (contents g).places i l.proper)) in
         wrote_then child_gone (rw (wrote_pages child_gone) at second)
 
   pub renewed : (x : Entry) (y : Page) (w' : List ℕ) → x ≡ child_place (store_of w).pages c → y ≡ with_place g i x → w' ≡ with_struct w p at y
@@ -169,11 +169,11 @@ module _ (p : ℕ) (w : List ℕ) (h : Readable p w) (depth : ℕ) (at q : PageN
       one_up mark d s = rw (there, by_path, s)
 
       pub trimmed_deeper : (mark : Stamp) (w₁ : List ℕ) (o₁ : List Orphan) (w₂ : List ℕ) (o₂ : List Orphan) → TrimmedTo p w (depth - 1) (trimmed_in w mark (depth - 1) (child_of x) q) w₁ o₁
-          → TrimmedTo p w₁ depth (trimmed_place depth at (contents g) i (child_of x) (so_far w₁ o₁)) w₂ o₂ → TrimmedTo p w depth (trimmed_in w mark depth at q) w₂ o₂
+          → TrimmedTo (page_count w₁) w₁ depth (trimmed_place depth at (contents g) i (child_of x) (so_far w₁ o₁)) w₂ o₂ → TrimmedTo p w depth (trimmed_in w mark depth at q) w₂ o₂
       trimmed_deeper mark w₁ o₁ w₂ o₂ one two =
           let t = trimmed_in w mark (depth - 1) (child_of x) q in
           let came : so_far w₁ o₁ ≡ t = λ j. record { pages = wrote_pages one.pages j; orphans = one.orphans j } in
           let both : TrimmedTo p w₁ depth (trimmed_place depth at (page_at ps at) i (child_of x) t) w₂ o₂ =
           subst (λ r. TrimmedTo p w₁ depth (trimmed_place depth at (page_at ps at) i (child_of x) r) w₂ o₂) came
-          (subst (λ g. TrimmedTo p w₁ depth (trimmed_place depth at g i (child_of x) (so_far w₁ o₁)) w₂ o₂) (read-contents p w h.ready at g read) two) in
+          (subst (λ g. TrimmedTo p w₁ depth (trimmed_place depth at g i (child_of x) (so_far w₁ o₁)) w₂ o₂) (read-contents p w h.ready at g read) (rw one.pages.ready.counted at two)) in
           rw (one_up mark (depth - 1) (omega arith)) (record { pages = wrote_then one.pages both.pages; orphans = both.orphans; waits = both.waits })

@@ -12,7 +12,7 @@ use Rattle.rules.specs.Cleaning.{Orphan as Waiting, Trimmed, reached_under, amon
 use Rattle.rules.specs.Views.{MemoInRange, ProperBox}
 use Rattle.rules.specs.laws.All.{All}
 use Rattle.theorems.specs.LeafToClean.{Followed}
-use Rattle.tree.specs.Putting.{Ready, Wrote}
+use Rattle.tree.specs.Putting.{Ready, page_count, Wrote}
 use Rattle.trim.specs.declared.Orphan.{Orphan}
 
 -- ---- what is asked for
@@ -21,6 +21,10 @@ pub record Readable (p : ℕ) (w : List ℕ) : Type 0 where
   pub ready : Ready p w
   pub slots_most : (store_of w).slots ≤ 1_024
   pub memo : MemoInRange (store_of w).slots (store_of w).memo
+
+-- those of a store of as many pages as it has
+abbrev pub IsReadable : List ℕ → Type 0
+IsReadable w = Readable (page_count w) w
 
 -- ---- what a leaf keeps, and what it loses
 -- page `at` with only those of its places that pass the test

@@ -1,5 +1,5 @@
 use Rattle.std.proofs.Common.{rules}
-use Rattle.tree.specs.Laws.{read_laid}
+use Rattle.tree.specs.Laws.{read_laid, ready_own}
 use Rattle.trim.proofs.Thin.{at_leaf, way_some, way_used, leaf_further, trimmed_deeper}
 use Rattle.trim.proofs.+trim_below.Goals as goal
 
@@ -16,7 +16,7 @@ pub trim_below-waiting-requires : goal.trim_below-waiting-requires
 trim_below-waiting-requires t c = search (rules, leaf_further)
 
 pub trim_place-requires : goal.trim_place-requires
-trim_place-requires t c = search (rules, read_laid, way_used)
+trim_place-requires t c = search (rules, read_laid, way_used, ready_own)
 
 pub returns : goal.returns
 returns t c = search (rules, trimmed_deeper)
