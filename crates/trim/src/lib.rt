@@ -15,8 +15,11 @@ ghost use Rattle.trim.specs.Trimming.{Readable, IsReadable, page_kept, leads_to,
 
 use arrayvec::ArrayVec;
 use page::Page;
+use parent::Parent;
 use rules::kind::Kind;
 use rules::{Entry, PageNo, Stamp};
+
+mod parent;
 
 // A place that waits to be put back, and the level of the page that it goes into.
 #[derive(Clone, Copy, Debug, Default, PartialEq, Eq)]
@@ -120,46 +123,37 @@ fn trim_leaf(store: &mut [u32], at: PageNo, mark: Stamp)
     tree::put_page(store, at, g);
 }
 
-// Frees page c, which page `at`, read as g, has in place i: its place there goes too.
-#[tactic(auto, using(tree::specs::Laws::laid_most))]
-fn free_child(store: &mut [u32], at: PageNo, g: Page, i: usize, c: PageNo)
-    requires { IsReady store.old × Laid g × (i < g.count) }
-    ensures { Wrote (page_count store.old) store.old (child_freed (store_of store.old).pages at (contents g) i c) store.new }
+// Frees the parent's child: its place there goes too.
+fn free_child(store: &mut [u32], parent: Parent)
+    requires { IsReady store.old }
+    ensures { Wrote (page_count store.old) store.old (child_freed (store_of store.old).pages parent) store.new }
 {
-    tree::put_page(store, c, page::empty_page());
-    tree::put_page(store, at, page::remove_place(g, i));
+    tree::put_page(store, parent.child(), page::empty_page());
+    tree::put_page(store, parent.at, page::remove_place(parent.page, parent.place));
 }
 
-// Makes the box of page c anew, which page `at`, read as g, has in place i.
-fn renew_child(store: &mut [u32], at: PageNo, g: Page, i: usize, c: PageNo)
-    requires { IsReady store.old × Laid g × (i < g.count) }
-    ensures { Wrote (page_count store.old) store.old (child_renewed (store_of store.old).pages at (contents g) i c) store.new }
+// Makes the box of the parent's child anew.
+fn renew_child(store: &mut [u32], parent: Parent)
+    requires { IsReady store.old }
+    ensures { Wrote (page_count store.old) store.old (child_renewed (store_of store.old).pages parent) store.new }
 {
-    let place = tree::child_place(store, c);
-    tree::put_page(store, at, page::set_place(g, i, place));
+    let place = tree::child_place(store, parent.child());
+    tree::put_page(store, parent.at, page::set_place(parent.page, parent.place, place));
 }
 
-// Page `at`, read as g, once its child c at this level, in place i, has been trimmed: a thin child is freed and its places wait.
+// The parent, once its child at this level has been trimmed: a thin child is freed and its places wait.
 #[tactic(auto, using(tree::specs::Laws::read_laid))]
-fn trim_place(
-    store: &mut [u32],
-    level: u32,
-    at: PageNo,
-    g: Page,
-    i: usize,
-    c: PageNo,
-    waiting: &mut Orphans,
-)
-    requires { IsReady store.old × Laid g × (i < g.count) × (1 ≤ level) × (level ≤ 4) × Waits (level - 1) waiting.old.items }
-    ensures { TrimmedTo (page_count store.old) store.old level (trimmed_place level at (contents g) i c (so_far store.old waiting.old.items)) store.new waiting.new.items }
+fn trim_place(store: &mut [u32], level: u32, parent: Parent, waiting: &mut Orphans)
+    requires { IsReady store.old × (1 ≤ level) × (level ≤ 4) × Waits (level - 1) waiting.old.items }
+    ensures { TrimmedTo (page_count store.old) store.old level (trimmed_place level parent (so_far store.old waiting.old.items)) store.new waiting.new.items }
 {
-    let left = tree::page_of(store, c);
+    let left = tree::page_of(store, parent.child());
     let is_thin = left.count < 4;
     if is_thin {
-        free_child(store, at, g, i, c);
+        free_child(store, parent);
         add_orphans(waiting, level, &left.places[..left.count as usize]);
     } else {
-        renew_child(store, at, g, i, c);
+        renew_child(store, parent);
     }
 }
 
@@ -173,10 +167,10 @@ fn trim_below(store: &mut [u32], depth: u32, at: PageNo, q: PageNo, mark: Stamp)
         return ArrayVec::new();
     }
     let g = tree::page_of(store, at);
-    let i = way_to(store, depth, g, q).unwrap();
-    let child = PageNo(page::place_at(g, i).key);
-    let mut waiting = trim_below(store, depth - 1, child, q, mark);
-    trim_place(store, depth, at, g, i, child, &mut waiting);
+    let place = way_to(store, depth, g, q).unwrap();
+    let parent = Parent { at, page: g, place };
+    let mut waiting = trim_below(store, depth - 1, parent.child(), q, mark);
+    trim_place(store, depth, parent, &mut waiting);
     waiting
 }
 
