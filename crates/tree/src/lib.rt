@@ -1,19 +1,21 @@
 // Putting an entry or a child page into the tree at its level, and splitting the pages that overflow on the way.
 #![tactic(auto)]
 
-ghost use Rattle.std.specs.Prelude.{◌≡◌, [], ◌∷◌, ◌++◌, map, ◌+◌, ◌≤◌, ◌<◌, length, take, drop, Some, IfSome};
+ghost use Rattle.std.specs.Prelude.{◌≡◌, [], ◌∷◌, ◌++◌, map, ◌+◌, ◌≤◌, ◌<◌, length, take, drop, Some};
 ghost use Rattle.rules.specs.Store as rules;
 ghost use Rattle.rules.specs.Tree as tree;
-ghost use Rattle.rules.specs.Tree.{with_places};
 ghost use Rattle.rules.specs.Views.{ProperBox};
 ghost use Rattle.page.specs.Struct.{contents, laid_page, struct_at, with_struct};
 ghost use Rattle.split.specs.Split.{Proper};
-ghost use Rattle.tree.specs.Putting.{Ready, page_count, IsReady, Laid, InTwo, Put, settled_in, page_with, picked, child_in, with_entry, renewed_in, over_root, NewRoot, raised, Grown};
+ghost use Rattle.tree.specs.Putting.{Ready, page_count, IsReady, Laid, InTwo, Put, settled_in, page_with, picked, renewed_in, over_root, NewRoot, raised, Grown};
 
 use page::Page;
+use parent::Parent;
 use rules::kind::Kind;
 use rules::part::Part;
 use rules::{Box, Entry, PageNo, Stamp};
+
+mod parent;
 
 // ---- the store's pages, as many as its header says
 
@@ -143,47 +145,16 @@ fn pick(g: Page, new: Box) -> Option<usize>
     }
 }
 
-// The child page in place i of g; where there is none page 0, as the rules read it.
-#[tactic(auto, using(crate::proofs::Below::one_child, crate::proofs::Below::none_child))]
-fn child_in(g: Page, i: Option<usize>) -> PageNo
-    requires { Laid g × IfSome i (λ i. i < length (contents g).places) }
-    ensures { result ≡ child_in (contents g).places i }
+// The parent, once its child has been written: the box made anew, and a second part added last.
+fn renew(store: &mut [u32], parent: Parent, below: Option<PageNo>) -> Option<PageNo>
+    requires { IsReady store.old }
+    ensures { Put (page_count store.old) store.old (renewed_in store.old parent.at parent.page parent.place below) store.new result }
 {
-    match i {
-        Some(i) => PageNo(page::place_at(g, i).key),
-        None => PageNo(0),
-    }
-}
-
-// g with this entry in place i; where there is none, g as it is.
-#[tactic(auto, using(crate::proofs::Below::one_set, crate::proofs::Below::none_set))]
-fn with_child(g: Page, i: Option<usize>, e: Entry) -> Page
-    requires { Laid g × IfSome i (λ i. i < length (contents g).places) }
-    ensures { result ≡ laid_page (with_places (contents g) (with_entry (contents g).places i e)) }
-{
-    match i {
-        Some(i) => page::set_place(g, i, e),
-        None => g,
-    }
-}
-
-// Page `at`, read as g, once its child c, in place i, has been written: the box made anew, and a second part added last.
-fn renew(
-    store: &mut [u32],
-    at: PageNo,
-    g: Page,
-    i: Option<usize>,
-    c: PageNo,
-    below: Option<PageNo>,
-) -> Option<PageNo>
-    requires { IsReady store.old × Laid g × IfSome i (λ i. i < length (contents g).places) }
-    ensures { Put (page_count store.old) store.old (renewed_in store.old at g i c below) store.new result }
-{
-    let h = with_child(g, i, child_place(store, c));
+    let h = parent.with_child(child_place(store, parent.child()));
     match below {
-        Some(q) => settle(store, at, h, child_place(store, q)),
+        Some(q) => settle(store, parent.at, h, child_place(store, q)),
         None => {
-            put_page(store, at, h);
+            put_page(store, parent.at, h);
             None
         }
     }
@@ -199,10 +170,10 @@ fn put_below(store: &mut [u32], depth: u32, at: PageNo, e: Entry) -> Option<Page
     if depth == 0 {
         return settle(store, at, g, e);
     }
-    let i = pick(g, e.bounds);
-    let child = child_in(g, i);
-    let below = put_below(store, depth - 1, child, e);
-    renew(store, at, g, i, child, below)
+    let place = pick(g, e.bounds);
+    let parent = Parent { at, page: g, place };
+    let below = put_below(store, depth - 1, parent.child(), e);
+    renew(store, parent, below)
 }
 
 // ---- the whole tree

@@ -2,7 +2,7 @@
 use Prim.Native.Nat.{ℕ, zero, suc, ◌-◌, ◌≤◌, ◌<◌}
 use native.Mathlib.Omega.{arith}
 use mathlib.Core.Path.{◌≡◌, refl, sym, subst, ◌∙◌, ap, ap₂}
-use mathlib.Core.Bool.{Bool, true}
+use mathlib.Core.Bool.{Bool}
 use mathlib.Core.List.{List, [], ◌∷◌, ◌++◌, map, map-append, map-map}
 use Rattle.std.specs.Prelude.{Option, Some, IsSome}
 use lib.Dec.{ltb}
@@ -11,22 +11,20 @@ use borrow.Author.Tests.{ltb-true, ltb-false}
 use Rattle.rules.specs.declared.Stamp.{Stamp}
 use Rattle.rules.specs.declared.PageNo.{PageNo}
 use Rattle.rules.specs.declared.Entry.{Entry}
-use Rattle.rules.specs.Boxes.{proper_box}
-use Rattle.rules.specs.Views.{proper_box-holds, proper_box_test}
-use Rattle.rules.specs.Lists.{every, keep, first, without}
+use Rattle.rules.specs.Lists.{keep, first, without}
 use Rattle.rules.specs.Store.{Page as Contents, free_page, no_place, child_of, page_at, put_page, store_of}
 use Rattle.rules.specs.Memo.{is_latest}
 use Rattle.rules.specs.Tree.{with_places, child_place}
 use Rattle.rules.specs.Cleaning.{path_to, trimmed_below}
 use Rattle.rules.specs.laws.Tests.{either}
-use Rattle.rules.specs.laws.All.{All, every_holds, every_test, none, more, head_of, tail_of, all_map, all_append, all_mapped, all_kept, all_set}
+use Rattle.rules.specs.laws.All.{All, none, more, head_of, tail_of, all_map, all_append, all_mapped, all_kept, all_set}
 use Rattle.rules.specs.laws.Kept.{keep_fewer}
 use Rattle.rules.specs.laws.Places.{without-length}
 use Rattle.page.specs.declared.Page.{Page}
 use Rattle.page.specs.Struct.{contents, laid_page, struct_at, with_struct, with_place, removed}
 use Rattle.page.specs.Laws.{laid_set, laid_removed}
 use Rattle.tree.specs.Putting.{ProperPlaces, Ready, page_count, IsReady, Laid, Wrote}
-use Rattle.tree.specs.Laws.{laid_few, laid_count, laid_most, laid_used, laid_at, ready_own, page_few, page_proper, child_proper, read_laid, read-contents, page-put, wrote_then, wrote_pages}
+use Rattle.tree.specs.Laws.{laid_few, laid_count, laid_most, laid_holds, laid_used, laid_at, ready_own, page_few, page_proper, child_proper, read_laid, read-contents, page-put, wrote_then, wrote_pages}
 use Rattle.trim.specs.declared.Orphan.{Orphan}
 use Rattle.trim.specs.declared.parent.Parent.{Parent}
 use Rattle.trim.proofs.Ways.{place_found, some_found}
@@ -51,7 +49,7 @@ all_without (x ∷ xs) zero a = tail_of a
 all_without (x ∷ xs) (suc i) a = more (head_of a) (all_without xs i (tail_of a))
 
 parent_laid : (f : Parent) → Laid f.page
-parent_laid f = record { laid = f.laid; proper = every_holds (λ e. proper_box e.bounds) (contents f.page).places (λ e. proper_box-holds e.bounds) f.proper }
+parent_laid f = laid_holds f.page f.laid
 
 pub parent_used : (f : Parent) → (f.place < f.page.count) × (f.page.count ≤ 8)
 parent_used f = (f.inside, laid_most f.page (parent_laid f))
@@ -76,7 +74,7 @@ module _ (p : ℕ) (w : List ℕ) (h : Ready p w) (f : Parent) where
     pub freed : (y : Page) (w₂ : List ℕ) → y ≡ removed f.page f.place → w₂ ≡ with_struct w₁ (page_count w₁) f.at y → Wrote p w (child_freed (store_of w).pages f) w₂
     freed y w₂ ey e₂ =
         let es = without g.places f.place in
-        let laid : y ≡ laid_page (with_places g es) = ey ∙ ap (λ g. removed g f.place) f.laid ∙ laid_removed g few f.place inside in
+        let laid : y ≡ laid_page (with_places g es) = ey ∙ ap (λ g. removed g f.place) f.laid.laid ∙ laid_removed g few f.place inside in
         let fewer : length es ≤ 8 = omega (arith, without-length g.places f.place inside, few) in
         let second : Wrote p w₁ (put_page (store_of w₁).pages f.at (with_places g es)) w₂ =
         rw (e₂, laid, child_gone.ready.counted) (page-put p w₁ child_gone.ready f.at (with_places g es) fewer (all_without g.places f.place (parent_laid f).proper)) in
@@ -87,7 +85,7 @@ module _ (p : ℕ) (w : List ℕ) (h : Ready p w) (f : Parent) where
   renewed c x y w' ec ex ey e =
       let z = child_place (store_of w).pages (child_at f) in
       let es = set g.places f.place z in
-      let laid : y ≡ laid_page (with_places g es) = ey ∙ ap₂ (λ g x. with_place g f.place x) f.laid (rw ec at ex) ∙ laid_set g few f.place z inside in
+      let laid : y ≡ laid_page (with_places g es) = ey ∙ ap₂ (λ g x. with_place g f.place x) f.laid.laid (rw ec at ex) ∙ laid_set g few f.place z inside in
       rw (e, laid) (page-put p w h f.at (with_places g es) (rw length-set few) (all_set (parent_laid f).proper f.place (child_proper p w h (child_at f))))
 
 -- ---- what waits from there
@@ -147,13 +145,6 @@ module _ (p : ℕ) (w : List ℕ) (h : Readable p w) (depth : ℕ) (at q : PageN
 
   laid : Laid g
   laid = read_laid p w h.ready at g read
-
-  -- what the parent keeps of the page
-  pub page_laid : g ≡ laid_page (contents g)
-  page_laid = laid.laid
-
-  pub places_proper : every (λ e. proper_box e.bounds) (contents g).places ≡ true
-  places_proper = every_test (λ e. proper_box e.bounds) (λ e. proper_box_test e.bounds) laid.proper
 
   abbrev its : (g : Contents) → List Entry
   its g = g.places
