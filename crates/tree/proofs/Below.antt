@@ -1,7 +1,7 @@
 -- A page once its child has been written, and the way down to it. Assumes nothing.
 use Prim.Native.Nat.{ℕ, zero, suc, ◌-◌, ◌≤◌, ◌<◌}
 use native.Mathlib.Omega.{arith}
-use mathlib.Core.Path.{◌≡◌, refl, ap, ◌∙◌}
+use mathlib.Core.Path.{◌≡◌, refl, sym, ap, ◌∙◌}
 use mathlib.Core.List.{List, [], ◌∷◌, ◌++◌}
 use lib.Dec.{leb}
 use lib.ListN.{length, get_or, set, take, length-set, get_or-eq_default}
@@ -21,9 +21,9 @@ use Rattle.page.specs.declared.Page.{Page}
 use Rattle.page.specs.Struct.{contents, laid_page, struct_at, with_struct, with_place}
 use Rattle.page.specs.Laws.{laid_contents, laid_set}
 use Rattle.split.specs.Split.{Chosen}
-use Rattle.std.specs.Prelude.{Option, Some, None, IfSome, unwrap_or}
-use Rattle.tree.specs.Putting.{Ready, Laid, Wrote, Put, answer, result, settled_in, renewed_in, picked, child_in, with_entry}
-use Rattle.tree.specs.Laws.{laid_few, laid_count, laid_used, laid_at, laid_of, read-contents, child_proper, page-put, wrote_then, wrote_pages}
+use Rattle.std.specs.Prelude.{Option, Some, None, unwrap_or}
+use Rattle.tree.specs.Putting.{Ready, page_count, Laid, LaidByTest, Wrote, Put, answer, result, settled_in, renewed_in, picked, child_in, with_entry}
+use Rattle.tree.specs.Laws.{laid_few, laid_count, laid_used, laid_at, laid_holds, laid_of, read-contents, child_proper, page-put, wrote_then, wrote_pages}
 
 -- ---- the place picked
 -- it is read and set as the one that the rules choose
@@ -43,12 +43,12 @@ picked_renewed new es c (whole ps) = picked_set new es _
 picked_renewed new es c (parted ps q) = ap (λ l. l ++ (child_place ps q ∷ [])) (picked_set new es _)
 
 -- and is used, or none
-used_picked : (new : Box) (es : List Entry) → IfSome (picked new es) (λ i. i < length es)
-used_picked new [] = tt
-used_picked new (e ∷ es) = choose_lt its_box new (e ∷ es) (omega arith)
+used_picked : (new : Box) (es : List Entry) (i : ℕ) → picked new es ≡ Some i → i < length es
+used_picked new [] i e = let z : ◌≡◌ {A = ℕ} 0 1 = cc e in absurd (omega arith)
+used_picked new (e ∷ es) i h = let same : choose its_box new (e ∷ es) ≡ i = cc h in rw (← same) (choose_lt its_box new (e ∷ es) (omega arith))
 
-pub picked_used : (new : Box) (es : List Entry) (i : Option ℕ) → i ≡ picked new es → IfSome i (λ i. i < length es)
-picked_used new es i e = rw e (used_picked new es)
+pub picked_used : (new : Box) (es : List Entry) (o : Option ℕ) → o ≡ picked new es → (i : ℕ) → o ≡ Some i → i < length es
+picked_used new es o e i h = used_picked new es i (sym e ∙ h)
 
 picks : (new : Box) (es : List Entry) → 0 < length es → Some (choose its_box new es) ≡ picked new es
 picks new [] h = absurd (omega arith)
@@ -66,16 +66,16 @@ module _ (g : Page) (l : Laid g) (new : Box) where
   pick_one r n t = rw (t.chosen, laid_used g l) (picks new (contents g).places (omega (arith, laid_count g l)))
 
 -- the child page there
-pub one_child : (g : Page) → Laid g → (i : ℕ) → child_of (get_or g.places i no_place) ≡ child_in (contents g).places (Some i)
-one_child g l i = ap child_of (laid_at g l i)
+pub one_child : (g : Page) → LaidByTest g → (i : ℕ) → child_of (get_or g.places i no_place) ≡ child_in (contents g).places (Some i)
+one_child g l i = ap child_of (laid_at g (laid_holds g l) i)
 
 pub none_child : (es : List Entry) (i : Option ℕ) → i ≡ None → page_no 0 ≡ child_in es i
 none_child es i h = rw (h, get_or-eq_default es no_place {n = length es} (omega arith)) refl
 
 -- ---- another entry in place i
-module _ (g : Page) (l : Laid g) (e : Entry) where
+module _ (g : Page) (l : LaidByTest g) (e : Entry) where
   pub one_set : (i : ℕ) → i < length (contents g).places → with_place g i e ≡ laid_page (with_places (contents g) (with_entry (contents g).places (Some i) e))
-  one_set i used = ap (λ g. with_place g i e) l.laid ∙ laid_set (contents g) (laid_few g l) i e used
+  one_set i used = ap (λ g. with_place g i e) l.laid ∙ laid_set (contents g) (laid_few g (laid_holds g l)) i e used
 
   pub none_set : g ≡ laid_page (with_places (contents g) (with_entry (contents g).places None e))
   none_set = rw (set_out (contents g).places (length (contents g).places) e (omega arith)) l.laid
@@ -101,8 +101,11 @@ module _ (p : ℕ) (w : List ℕ) (h : Ready p w) (c : PageNo) where
   made_proper x e = rw e (child_proper p w h c)
 
 -- ---- the page once its child has been written
-module _ (p : ℕ) (w : List ℕ) (h : Ready p w) (at : PageNo) (g : Page) (l : Laid g) (i : Option ℕ) (c : PageNo) (x : Entry) (made : x ≡ child_place (store_of w).pages c)
+module _ (p : ℕ) (w : List ℕ) (h : Ready p w) (at : PageNo) (g : Page) (kept : LaidByTest g) (i : Option ℕ) (c : PageNo) (found : c ≡ child_in (contents g).places i) (x : Entry) (made : x ≡ child_place (store_of w).pages c)
     (y : Page) (there : y ≡ laid_page (with_places (contents g) (with_entry (contents g).places i x))) where
+  laid : Laid g
+  laid = laid_holds g kept
+
   abbrev es : List Entry
   es = with_entry (contents g).places i x
 
@@ -110,21 +113,21 @@ module _ (p : ℕ) (w : List ℕ) (h : Ready p w) (at : PageNo) (g : Page) (l : 
   x_proper = made_proper p w h c x made
 
   pub renew_laid : Laid y
-  renew_laid = set_laid g l i x x_proper y there
+  renew_laid = set_laid g laid i x x_proper y there
 
-  pub renew_whole : (below : Option PageNo) (w' : List ℕ) → below ≡ None → w' ≡ with_struct w p at y → Put p w (renewed_in w at g i c below) w' None
+  pub renew_whole : (below : Option PageNo) (w' : List ℕ) → below ≡ None → w' ≡ with_struct w p at y → Put p w (renewed_in w at g i below) w' None
   unfolding settled renewed
   renew_whole below w' e q =
-      let few : length es ≤ 8 = set_few g l i x in
-      rw (e, ← made)
+      let few : length es ≤ 8 = set_few g laid i x in
+      rw (e, ← found, ← made)
       (either (λ r. Put p w r w' None) (leb (length es) 8)
-      (λ t. record { pages = rw (q, there) (page-put p w h at (with_places (contents g) es) few (all_set l.proper (unwrap_or i (length (contents g).places)) x_proper)); answers = refl })
+      (λ t. record { pages = rw (q, there) (page-put p w h at (with_places (contents g) es) few (all_set laid.proper (unwrap_or i (length (contents g).places)) x_proper)); answers = refl })
       (λ f. absurd (omega (arith, few, leb-false (length es) 8 f))))
 
   pub renew_parted : (below : Option PageNo) (q : PageNo) (z : Entry) (w' : List ℕ) (a : Option PageNo) → below ≡ Some q → z ≡ child_place (store_of w).pages q
-      → Put p w (settled_in w at y z) w' a → Put p w (renewed_in w at g i c below) w' a
+      → Put p w (settled_in w at y z) w' a → Put p w (renewed_in w at g i below) w' a
   unfolding settled renewed
-  renew_parted below q z w' a e k t = rw (e, ← made, ← k) (rw (set_contents g l i x x_proper y there) at t)
+  renew_parted below q z w' a e k t = rw (e, ← found, ← made, ← k) (rw (set_contents g laid i x x_proper y there) at t)
 
 -- ---- down to a child
 result_back : (r : Result) → result (answer r) (pages_in r) ≡ r
@@ -144,13 +147,13 @@ module _ (p : ℕ) (w : List ℕ) (h : Ready p w) (at : PageNo) (e : Entry) (g :
     chosen : c ≡ child_of (get_or (contents g).places (choose its_box e.bounds (contents g).places) no_place)
     chosen = rw (found, best, picked_place e.bounds (contents g).places) refl
 
-    one_up : (r : Result) (w₁ : List ℕ) (a₁ : Option PageNo) (w' : List ℕ) (a : Option PageNo) → Put p w r w₁ a₁ → Put p w₁ (renewed_in w₁ at g i c a₁) w' a
+    one_up : (r : Result) (w₁ : List ℕ) (a₁ : Option PageNo) (w' : List ℕ) (a : Option PageNo) → Put p w r w₁ a₁ → Put (page_count w₁) w₁ (renewed_in w₁ at g i a₁) w' a
         → Put p w (settled (pages_in r) at (contents g) (renewed (contents g).places (choose its_box e.bounds (contents g).places) c r)) w' a
     one_up r w₁ a₁ w' a one t =
-        put_then one.pages (rw (wrote_pages one.pages, one.answers, result_back r, best, picked_renewed e.bounds (contents g).places c r) at t)
+        put_then one.pages (rw (one.pages.ready.counted, wrote_pages one.pages, one.answers, result_back r, ← found, best, picked_renewed e.bounds (contents g).places c r) at t)
 
     pub below_deeper : (depth : ℕ) (w₁ : List ℕ) (a₁ : Option PageNo) (w' : List ℕ) (a : Option PageNo) → (depth ≡ 0 → ⊥)
-        → Put p w (put_below (depth - 1) (store_of w).pages c e) w₁ a₁ → Put p w₁ (renewed_in w₁ at g i c a₁) w' a
+        → Put p w (put_below (depth - 1) (store_of w).pages c e) w₁ a₁ → Put (page_count w₁) w₁ (renewed_in w₁ at g i a₁) w' a
         → Put p w (put_below depth (store_of w).pages at e) w' a
     unfolding put_below
     below_deeper zero w₁ a₁ w' a n one t = absurd (n refl)

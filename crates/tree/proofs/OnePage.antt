@@ -1,5 +1,5 @@
 -- A page that gets one place more: with room, and split. Assumes nothing.
-use Prim.Native.Nat.{ℕ, ◌+◌, ◌-◌, ◌*◌, ◌≤◌, ◌<◌, min}
+use Prim.Native.Nat.{ℕ, ◌+◌, ◌-◌, ◌≤◌, ◌<◌, min}
 use native.Mathlib.Omega.{arith}
 use mathlib.Core.Path.{◌≡◌, refl, sym, ap, ◌∙◌}
 use mathlib.Core.List.Permᴰ
@@ -11,7 +11,7 @@ use borrow.Author.Tests.{leb-true, leb-false}
 use Rattle.rules.specs.declared.PageNo.{PageNo}
 use Rattle.rules.specs.declared.Entry.{Entry}
 use Rattle.rules.specs.declared.Stamp.{Stamp}
-use Rattle.rules.specs.Store.{put_page, pages_of, place_words, place_of, box_of, store_of}
+use Rattle.rules.specs.Store.{put_page, place_words, place_of, box_of, store_of}
 use Rattle.rules.specs.Tree.{its_box, with_places, split, lowest_free, settled}
 use Rattle.rules.specs.Views.{ProperBox}
 use Rattle.rules.specs.laws.Tests.{either}
@@ -24,30 +24,31 @@ use Rattle.page.specs.Struct.{contents, laid_page, with_struct, added}
 use Rattle.page.specs.Laws.{laid_added}
 use Rattle.split.specs.Split.{Proper, Parts}
 use Rattle.std.specs.Prelude.{Some, None}
-use Rattle.tree.specs.Putting.{ProperPlaces, Ready, Laid, Wrote, InTwo, Put, settled_in, page_with}
-use Rattle.tree.specs.Laws.{laid_few, laid_count, laid_length, room, page-put, free_read, wrote_then, wrote_pages}
+use Rattle.tree.specs.Putting.{ProperPlaces, Ready, page_count, IsReady, Laid, Wrote, InTwo, Put, settled_in, page_with}
+use Rattle.tree.specs.Laws.{laid_few, laid_count, laid_length, ready_own, page-put, wrote_then, wrote_pages}
 
 -- ---- two pages, one after the other
 row_places : (rows : List (List ℕ)) → Proper rows → ProperPlaces (map place_of rows)
 unfolding place_of
 row_places rows a = all_mapped place_of a
 
-module _ (p : ℕ) (w : List ℕ) (h : Ready p w) (at : PageNo) (kind : ℕ) (mark : Stamp) (rows : List (List ℕ)) (long : length rows ≡ 9) (n : ℕ) (least : 1 ≤ n) (most : n ≤ 8) (a : Proper rows)
-    (x : Page) (w₁ : List ℕ) (ex : x ≡ laid_page (page_with kind mark (take n rows))) (e₁ : w₁ ≡ with_struct w p at x) where
-  first_put : Wrote p w (put_page (store_of w).pages at (page_with kind mark (take n rows))) w₁
-  first_put = rw (e₁, ex) (page-put p w h at (page_with kind mark (take n rows)) (rw (length-map, length-take-le n rows (omega arith)) most) (row_places (take n rows) (all_take a n)))
+module _ (w : List ℕ) (h : IsReady w) (at : PageNo) (kind : ℕ) (mark : Stamp) (rows : List (List ℕ)) (long : length rows ≡ 9) (n : ℕ) (least : 1 ≤ n) (most : n ≤ 8) (a : Proper rows)
+    (x : Page) (w₁ : List ℕ) (ex : x ≡ laid_page (page_with kind mark (take n rows))) (e₁ : w₁ ≡ with_struct w (page_count w) at x) where
+  first_put : Wrote (page_count w) w (put_page (store_of w).pages at (page_with kind mark (take n rows))) w₁
+  first_put = rw (e₁, ex) (page-put (page_count w) w h at (page_with kind mark (take n rows)) (rw (length-map, length-take-le n rows (omega arith)) most) (row_places (take n rows) (all_take a n)))
 
-  pub first_room : 16 + 52 * p ≤ length w₁
-  first_room = room p w₁ first_put.ready
+  pub first_ready : IsReady w₁
+  first_ready = ready_own (page_count w) w₁ first_put.ready
 
-  pub both_put : (q : PageNo) (y : Page) (w₂ : List ℕ) → q ≡ lowest_free (pages_of p (drop 16 w)) → y ≡ laid_page (page_with kind mark (take (9 - n) (drop n rows))) → w₂ ≡ with_struct w₁ p q y
-      → InTwo p w at (page_with kind mark (take n rows)) (page_with kind mark (drop n rows)) w₂ q
+  pub both_put : (q : PageNo) (y : Page) (w₂ : List ℕ) → q ≡ lowest_free (store_of w).pages → y ≡ laid_page (page_with kind mark (take (9 - n) (drop n rows))) → w₂ ≡ with_struct w₁ (page_count w₁) q y
+      → InTwo (page_count w) w at (page_with kind mark (take n rows)) (page_with kind mark (drop n rows)) w₂ q
   both_put q y w₂ free ey e₂ =
       let whole : take (9 - n) (drop n rows) ≡ drop n rows = take_all (9 - n) (drop n rows) (rw (length-drop, long) (omega arith)) in
       let few : length (map place_of (drop n rows)) ≤ 8 = rw (length-map, length-drop) (omega arith) in
       let back : ProperPlaces (map place_of (drop n rows)) = row_places (drop n rows) (all_back (take n rows) _ (rw (take-append-drop n rows) a)) in
-      let second : Wrote p w₁ (put_page (store_of w₁).pages q (page_with kind mark (drop n rows))) w₂ = rw (e₂, ey, whole) (page-put p w₁ first_put.ready q (page_with kind mark (drop n rows)) few back) in
-      record { pages = wrote_then first_put (rw (wrote_pages first_put) at second); free = free ∙ free_read p w h }
+      let second : Wrote (page_count w) w₁ (put_page (store_of w₁).pages q (page_with kind mark (drop n rows))) w₂ =
+      rw (e₂, ey, whole, first_put.ready.counted) (page-put (page_count w) w₁ first_put.ready q (page_with kind mark (drop n rows)) few back) in
+      record { pages = wrote_then first_put (rw (wrote_pages first_put) at second); free = free }
 
 module _ (p : ℕ) (w : List ℕ) (h : Ready p w) (at : PageNo) (g : Page) (l : Laid g) (e : Entry) (b : ProperBox e.bounds) where
   abbrev es : List Entry

@@ -4,21 +4,20 @@ use native.Mathlib.Omega.{arith}
 use native.Mathlib.Numerals.{add-one}
 use mathlib.Core.Path.{◌≡◌, ap, ◌∙◌}
 use mathlib.Core.List.{List, [], ◌∷◌}
-use lib.ListN.{length, get_or, set, drop, length-set}
+use lib.ListN.{length, get_or, set, length-set}
 use mir.Syntax.{w32}
 use mir.Val.{Fits as Number}
 use Rattle.rules.specs.declared.PageNo.{PageNo}
 use Rattle.rules.specs.declared.Entry.{Entry}
-use Rattle.rules.specs.Store.{Page as Contents, stamp, page_no, free_page, pages_of, words, store_of, limit}
+use Rattle.rules.specs.Store.{Page as Contents, stamp, page_no, free_page, words, store_of, limit}
 use Rattle.rules.specs.Tree.{tree_of, with_places, child_place, lowest_free, whole, parted, rooted, put_below, put_at, Written as Result}
 use Rattle.rules.specs.laws.All.{none, more}
-use Rattle.rules.specs.laws.Header.{pages_there}
 use Rattle.page.specs.declared.Page.{Page}
 use Rattle.page.specs.Struct.{laid_page, with_struct, added}
 use Rattle.page.specs.Laws.{laid_added}
 use Rattle.std.specs.Prelude.{Option, Some, None}
-use Rattle.tree.specs.Putting.{Ready, Put, Grown, with_tree, NewRoot, over_root, raised}
-use Rattle.tree.specs.Laws.{room, levels_read, root_read, free_read, child_proper, page-put, grown_from, wrote_grown}
+use Rattle.tree.specs.Putting.{Ready, page_count, IsReady, Put, Grown, with_tree, NewRoot, over_root, raised}
+use Rattle.tree.specs.Laws.{room, levels_read, root_read, child_proper, page-put, grown_from, wrote_grown}
 
 empty_inner : (f : Page) → f ≡ laid_page free_page → record { kind = 2; count = f.count; mark = f.mark; places = f.places } ≡ laid_page (record { kind = 2; mark = stamp 0; places = [] })
 unfolding laid_page
@@ -36,12 +35,12 @@ over_made w root q f g h x y ef ex eg ey eh =
 
 module _ (p : ℕ) (w : List ℕ) (h : Ready p w) where
   -- ---- the new root
-  pub root_put : (q r root : PageNo) (g : Page) (w' : List ℕ) → root ≡ page_no (get_or w 2 0) → r ≡ lowest_free (pages_of p (drop 16 w))
+  pub root_put : (q r root : PageNo) (g : Page) (w' : List ℕ) → root ≡ page_no (get_or w 2 0) → r ≡ lowest_free (store_of w).pages
       → g ≡ laid_page (over_root (store_of w).pages root q) → w' ≡ with_struct w p r g → NewRoot p w q w' r
   root_put q r root g w' there free made e =
       record {
         pages = rw (e, made, there ∙ root_read p w h) (page-put p w h r (over_root (store_of w).pages (store_of w).root q) (omega arith) (more (child_proper p w h (store_of w).root) (more (child_proper p w h q) none)));
-        free = free ∙ free_read p w h;
+        free = free;
       }
 
   -- ---- words 2 and 3
@@ -79,24 +78,21 @@ parted_grown (parted ps q') q w₂ put k t =
       ready = t.ready;
     })
 
-module _ (w : List ℕ) (h : Ready (length (store_of w).pages) w) (p : ℕ) (counted : p ≡ get_or w 5 0) (levels level : ℕ) (read : levels ≡ get_or w 3 0) where
+module _ (w : List ℕ) (h : IsReady w) (levels level : ℕ) (read : levels ≡ get_or w 3 0) where
   pub levels_enough : level ≤ (store_of w).levels → level ≤ levels
   levels_enough k = omega (arith, levels_read _ w h)
 
-  all_pages : p ≡ length (store_of w).pages
-  all_pages = counted ∙ rw h.written at (pages_there (store_of w))
+  module _ (e : Entry) (root : PageNo) (there : root ≡ page_no (get_or w 2 0)) (w₁ : List ℕ) (a : Option PageNo) (put : Put (page_count w) w (put_below (levels - level) (store_of w).pages root e) w₁ a) where
+    put_there : Put (page_count w) w (put_below ((store_of w).levels - level) (store_of w).pages (store_of w).root e) w₁ a
+    put_there = rw (read ∙ levels_read _ w h, there ∙ root_read _ w h) at put
 
-  module _ (e : Entry) (root : PageNo) (there : root ≡ page_no (get_or w 2 0)) (w₁ : List ℕ) (a : Option PageNo) (put : Put p w (put_below (levels - level) (store_of w).pages root e) w₁ a) where
-    put_there : Put (length (store_of w).pages) w (put_below ((store_of w).levels - level) (store_of w).pages (store_of w).root e) w₁ a
-    put_there = rw (all_pages, read ∙ levels_read _ w h, there ∙ root_read _ w h) at put
-
-    pub put_whole : a ≡ None → Grown (length (store_of w).pages) w (put_at level e (tree_of (store_of w))) w₁
+    pub put_whole : a ≡ None → Grown (page_count w) w (put_at level e (tree_of (store_of w))) w₁
     unfolding put_at
     put_whole k = whole_grown _ put_there k
 
     pub levels_kept : (store_of w).levels < limit → (store_of w₁).levels < limit
     levels_kept k = rw put_there.pages.stored k
 
-    pub put_parted : (q : PageNo) (w₂ : List ℕ) → a ≡ Some q → Grown p w₁ (raised (store_of w₁) q) w₂ → Grown (length (store_of w).pages) w (put_at level e (tree_of (store_of w))) w₂
+    pub put_parted : (q : PageNo) (w₂ : List ℕ) → a ≡ Some q → Grown (page_count w₁) w₁ (raised (store_of w₁) q) w₂ → Grown (page_count w) w (put_at level e (tree_of (store_of w))) w₂
     unfolding put_at
-    put_parted q w₂ k t = parted_grown _ q w₂ put_there k (rw all_pages at t)
+    put_parted q w₂ k t = parted_grown _ q w₂ put_there k (rw put_there.pages.ready.counted at t)

@@ -7,8 +7,9 @@ use Rattle.rules.specs.declared.PageNo.{PageNo}
 use Rattle.rules.specs.declared.Entry.{Entry}
 use Rattle.rules.specs.Store.{Page as Contents, Store, page_no, free_page, no_place, page_at, put_page, pages_of, store_length, words, store_of}
 use Rattle.rules.specs.Tree.{Tree, tree_of, its_box, lowest_free, child_place, cover_page}
-use Rattle.rules.specs.Views.{ProperBox}
-use Rattle.rules.specs.laws.All.{All, none, all_set, all_anywhere}
+use Rattle.rules.specs.Boxes.{proper_box}
+use Rattle.rules.specs.Views.{ProperBox, proper_box-holds, proper_box_test}
+use Rattle.rules.specs.laws.All.{All, every_holds, every_test, none, all_set, all_anywhere}
 use Rattle.rules.specs.laws.Boxes.{cover_of_all_proper}
 use Rattle.rules.specs.laws.Words.{Fits, words-length, fits_read}
 use Rattle.rules.specs.laws.Parts.{with_pages, with_header, fits_page, root_written, levels_written}
@@ -16,7 +17,7 @@ use Rattle.rules.specs.laws.Header.{root_there, levels_there, pages_there}
 use Rattle.page.specs.declared.Page.{Page}
 use Rattle.page.specs.Struct.{contents, laid_page, struct_at, with_struct}
 use Rattle.page.specs.Laws.{laid_contents, laid_places, laid_place, pages_length, struct_there, struct_written}
-use Rattle.tree.specs.Putting.{ProperPlaces, Ready, Laid, Wrote, Grown, with_tree}
+use Rattle.tree.specs.Putting.{ProperPlaces, Ready, page_count, IsReady, Laid, LaidByTest, Wrote, Grown, with_tree}
 
 -- ---- words and back
 pub ready_words : (p : ℕ) (s : Store) → Fits s → length s.pages ≡ p → p ≤ 192 → All (λ g. ProperPlaces g.places) s.pages → Ready p (words s)
@@ -52,6 +53,12 @@ module _ (g : Page) (l : Laid g) where
 
   pub laid_next : (i : ℕ) (e : Entry) → i < g.count → e ≡ get_or g.places i no_place → take (i + 1) (contents g).places ≡ take i (contents g).places ++ (e ∷ [])
   laid_next i e h q = rw (add-one i, q ∙ laid_at i) (take-suc (contents g).places i no_place (omega (arith, laid_count)))
+
+  pub laid_test : LaidByTest g
+  laid_test = record { laid = l.laid; proper = every_test (λ e. proper_box e.bounds) (λ e. proper_box_test e.bounds) l.proper }
+
+pub laid_holds : (g : Page) → LaidByTest g → Laid g
+laid_holds g l = record { laid = l.laid; proper = every_holds (λ e. proper_box e.bounds) (contents g).places (λ e. proper_box-holds e.bounds) l.proper }
 
 -- the struct of contents is laid out
 pub laid_of : (g : Contents) → length g.places ≤ 8 → ProperPlaces g.places → Laid (laid_page g)
@@ -104,8 +111,15 @@ module _ (p : ℕ) (w : List ℕ) (h : Ready p w) where
   child_proper c = cover_of_all_proper its_box (page_at (store_of w).pages c).places (page_proper c)
 
 -- p may be read from the words
+pub count_read : (w : List ℕ) (n : ℕ) → IsReady w → n ≡ get_or w 5 0 → n ≡ page_count w
+count_read w n h e = e ∙ rw h.written at (pages_there (store_of w))
+
 pub ready_count : (w : List ℕ) (n : ℕ) → Ready (length (store_of w).pages) w → n ≡ get_or w 5 0 → Ready n w
-ready_count w n h e = rw (e ∙ rw h.written at (pages_there (store_of w))) h
+ready_count w n h e = rw (count_read w n h e) h
+
+-- and is the number of pages
+pub ready_own : (p : ℕ) (w : List ℕ) → Ready p w → IsReady w
+ready_own p w h = rw h.counted h
 
 -- ---- written
 -- a page is replaced

@@ -1,5 +1,5 @@
 -- What putting in asks of a store's words, what it leaves, and what it answers.
-use Rattle.std.specs.Prelude.{ℕ, ◌≤◌, ◌≡◌, List, [], ◌∷◌, ◌++◌, Option, Some, None, map, length, get_or, set, unwrap_or}
+use Rattle.std.specs.Prelude.{ℕ, ◌≤◌, ◌≡◌, true, List, [], ◌∷◌, ◌++◌, Option, Some, None, map, length, get_or, set, unwrap_or}
 use Rattle.rules.specs.declared.Stamp.{Stamp}
 use Rattle.rules.specs.declared.PageNo.{PageNo}
 use Rattle.rules.specs.declared.Entry.{Entry}
@@ -7,6 +7,8 @@ use Rattle.rules.specs.declared.Box.{Box}
 use Rattle.rules.specs.Store.{Page as Contents, Store, stamp, no_place, child_of, put_page, place_of, words, store_of}
 use Rattle.rules.specs.Tree.{whole, parted, pages_in, settled, lowest_free, its_box, choose, renewed, Tree, child_place, rooted}
 use Rattle.rules.specs.Tree.{Written as Result}
+use Rattle.rules.specs.Boxes.{proper_box}
+use Rattle.rules.specs.Lists.{every}
 use Rattle.rules.specs.Views.{ProperBox}
 use Rattle.rules.specs.laws.All.{All}
 use Rattle.rules.specs.laws.Words.{Fits}
@@ -26,10 +28,22 @@ pub record Ready (p : ℕ) (w : List ℕ) : Type 0 where
   pub most : p ≤ 192
   pub proper : All (λ g. ProperPlaces g.places) (store_of w).pages
 
+-- those of a store of as many pages as it has
+abbrev pub page_count : List ℕ → ℕ
+page_count w = length (store_of w).pages
+
+abbrev pub IsReady : List ℕ → Type 0
+IsReady w = Ready (page_count w) w
+
 -- a page struct whose unused places are zero and whose used ones have proper boxes
 pub record Laid (g : Page) : Type 0 where
   pub laid : g ≡ laid_page (contents g)
   pub proper : ProperPlaces (contents g).places
+
+-- the same by a test, as a struct keeps it
+pub record LaidByTest (g : Page) : Type 0 where
+  pub laid : g ≡ laid_page (contents g)
+  pub proper : every (λ e. proper_box e.bounds) (contents g).places ≡ true
 
 -- ---- what is left
 -- the words w' are those of the store in w with other pages
@@ -80,11 +94,11 @@ child_in es i = child_of (get_or es (unwrap_or i (length es)) no_place)
 abbrev pub with_entry : List Entry → Option ℕ → Entry → List Entry
 with_entry es i e = set es (unwrap_or i (length es)) e
 
--- page `at`, read as g, once its child c, in place i, has been written
-abbrev pub renewed_in : List ℕ → PageNo → Page → Option ℕ → PageNo → Option PageNo → Result
-renewed_in w at g i c below =
+-- page `at`, read as g, once its child, in place i, has been written
+abbrev pub renewed_in : List ℕ → PageNo → Page → Option ℕ → Option PageNo → Result
+renewed_in w at g i below =
     let es = (contents g).places in
-    settled (store_of w).pages at (contents g) (renewed es (unwrap_or i (length es)) c (result below (store_of w).pages))
+    settled (store_of w).pages at (contents g) (renewed es (unwrap_or i (length es)) (child_in es i) (result below (store_of w).pages))
 
 -- ---- the whole tree
 -- the store with another tree

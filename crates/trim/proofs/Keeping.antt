@@ -1,5 +1,5 @@
 -- What a leaf keeps and what it loses: the places of a page that pass a test, place by place. Assumes nothing.
-use Rattle.std.proofs.Common.{ℕ, ◌+◌, ◌*◌, ◌≤◌, ◌<◌, ◌≡◌, ◌∙◌, sym, ap, arith, Bool, true, false, List, [], ◌∷◌, length, get_or, take, append-nil}
+use Rattle.std.proofs.Common.{ℕ, ◌+◌, ◌≤◌, ◌<◌, ◌≡◌, ◌∙◌, sym, ap, arith, Bool, true, false, List, [], ◌∷◌, length, get_or, take, append-nil}
 use Rattle.std.proofs.lemmas.List.{take_more, take_all, length-take-le}
 use Rattle.rules.specs.declared.PageNo.{PageNo}
 use Rattle.rules.specs.declared.Entry.{Entry}
@@ -11,12 +11,9 @@ use Rattle.rules.specs.laws.Kept.{keep_yes, keep_no, keep_append, keep_fewer}
 use Rattle.page.specs.declared.Page.{Page}
 use Rattle.page.specs.Struct.{contents, laid_page, struct_at, added}
 use Rattle.page.specs.Laws.{laid_added}
-use Rattle.tree.specs.Putting.{Laid}
-use Rattle.tree.specs.Laws.{room, laid_few, laid_most, laid_used, read_laid, read-contents, ready_count}
-use Rattle.trim.specs.Trimming.{Readable, page_kept}
-
-pub pages_room : (w : List ℕ) → Readable (length (store_of w).pages) w → (p : ℕ) → p ≡ get_or w 5 0 → 16 + 52 * p ≤ length w
-pages_room w h p e = room p w (ready_count w p h.ready e)
+use Rattle.tree.specs.Putting.{page_count, Laid}
+use Rattle.tree.specs.Laws.{laid_few, laid_most, laid_used, read_laid, read-contents}
+use Rattle.trim.specs.Trimming.{IsReadable, page_kept}
 
 -- ---- of these places those that pass, in a page of this kind and mark
 abbrev pub kept_first : ℕ → Stamp → (Entry → Bool) → List Entry → Contents
@@ -43,9 +40,9 @@ module _ (kind : ℕ) (mark : Stamp) (test : Entry → Bool) (es : List Entry) (
   kept_same r' f z =
       z ∙ so_far ∙ rw (take_more es i d inside, keep_append test (take i es) (get_or es i d ∷ []), keep_no test (get_or es i d) [] (sym tested ∙ f), append-nil)
 
-module _ (w : List ℕ) (h : Readable (length (store_of w).pages) w) (p : ℕ) (counted : p ≡ get_or w 5 0) (at : PageNo) (g : Page) (read : g ≡ struct_at w p at) where
+module _ (w : List ℕ) (h : IsReadable w) (at : PageNo) (g : Page) (read : g ≡ struct_at w (page_count w) at) where
   laid : Laid g
-  laid = read_laid p w (ready_count w p h.ready counted) at g read
+  laid = read_laid _ w h.ready at g read
 
   pub count_most : g.count ≤ 8
   count_most = laid_most g laid
@@ -58,4 +55,4 @@ module _ (w : List ℕ) (h : Readable (length (store_of w).pages) w) (p : ℕ) (
   unfolding contents
   kept_all test r i e k =
       e ∙ rw (take_all i (take g.count g.places) k, laid_used g laid)
-      (ap (λ (c : Contents). laid_page (with_places c (keep test c.places))) (read-contents p w (ready_count w p h.ready counted) at g read))
+      (ap (λ (c : Contents). laid_page (with_places c (keep test c.places))) (read-contents _ w h.ready at g read))

@@ -1,5 +1,5 @@
 -- Taking out what is thin: the leaf, a page once its child has been trimmed, and the way down to the leaf. Assumes nothing.
-use Prim.Native.Nat.{ℕ, zero, suc, ◌+◌, ◌*◌, ◌-◌, ◌≤◌, ◌<◌}
+use Prim.Native.Nat.{ℕ, zero, suc, ◌-◌, ◌≤◌, ◌<◌}
 use native.Mathlib.Omega.{arith}
 use mathlib.Core.Path.{◌≡◌, refl, sym, subst, ◌∙◌, ap, ap₂}
 use mathlib.Core.Bool.{Bool}
@@ -23,11 +23,12 @@ use Rattle.rules.specs.laws.Places.{without-length}
 use Rattle.page.specs.declared.Page.{Page}
 use Rattle.page.specs.Struct.{contents, laid_page, struct_at, with_struct, with_place, removed}
 use Rattle.page.specs.Laws.{laid_set, laid_removed}
-use Rattle.tree.specs.Putting.{ProperPlaces, Ready, Laid, Wrote}
-use Rattle.tree.specs.Laws.{laid_few, laid_count, laid_used, laid_at, room, page_few, page_proper, child_proper, read_laid, read-contents, page-put, wrote_then, wrote_pages}
+use Rattle.tree.specs.Putting.{ProperPlaces, Ready, page_count, IsReady, Laid, Wrote}
+use Rattle.tree.specs.Laws.{laid_few, laid_count, laid_most, laid_holds, laid_used, laid_at, ready_own, page_few, page_proper, child_proper, read_laid, read-contents, page-put, wrote_then, wrote_pages}
 use Rattle.trim.specs.declared.Orphan.{Orphan}
+use Rattle.trim.specs.declared.parent.Parent.{Parent}
 use Rattle.trim.proofs.Ways.{place_found, some_found}
-use Rattle.trim.specs.Trimming.{Readable, page_kept, leads_to, way, LeafBelow, waiting, held_by, at_level, wait_at, Placeable, Waits, trimmed_in, so_far, child_freed, child_renewed, trimmed_place, TrimmedTo}
+use Rattle.trim.specs.Trimming.{Readable, page_kept, leads_to, way, LeafBelow, waiting, held_by, at_level, child_at, wait_at, Placeable, Waits, trimmed_in, so_far, child_freed, child_renewed, trimmed_place, TrimmedTo}
 
 -- ---- the leaf
 pub leaf_trimmed : (p : ℕ) (w : List ℕ) → Readable p w → (at : PageNo) (mark : Stamp) (g : Page) (w' : List ℕ) → g ≡ laid_page (page_kept (is_latest (store_of w).memo) (store_of w) at)
@@ -47,40 +48,53 @@ all_without [] i a = none
 all_without (x ∷ xs) zero a = tail_of a
 all_without (x ∷ xs) (suc i) a = more (head_of a) (all_without xs i (tail_of a))
 
-module _ (p : ℕ) (w : List ℕ) (h : Ready p w) (at : PageNo) (g : Page) (l : Laid g) (i : ℕ) (used : i < g.count) (c : PageNo) where
-  inside : i < length (contents g).places
-  inside = omega (arith, laid_count g l)
+parent_laid : (f : Parent) → Laid f.page
+parent_laid f = laid_holds f.page f.laid
 
-  module _ (x : Page) (w₁ : List ℕ) (ex : x ≡ laid_page free_page) (e₁ : w₁ ≡ with_struct w p c x) where
-    child_gone : Wrote p w (put_page (store_of w).pages c free_page) w₁
-    child_gone = rw (e₁, ex) (page-put p w h c free_page (omega arith) none)
+pub parent_used : (f : Parent) → (f.place < f.page.count) × (f.page.count ≤ 8)
+parent_used f = (f.inside, laid_most f.page (parent_laid f))
 
-    pub freed_room : 16 + 52 * p ≤ length w₁
-    freed_room = room p w₁ child_gone.ready
+module _ (p : ℕ) (w : List ℕ) (h : Ready p w) (f : Parent) where
+  abbrev g : Contents
+  g = contents f.page
 
-    pub freed : (y : Page) (w₂ : List ℕ) → y ≡ removed g i → w₂ ≡ with_struct w₁ p at y → Wrote p w (child_freed (store_of w).pages at (contents g) i c) w₂
+  few : length g.places ≤ 8
+  few = laid_few f.page (parent_laid f)
+
+  inside : f.place < length g.places
+  inside = omega (arith, laid_count f.page (parent_laid f), f.inside)
+
+  module _ (x : Page) (c : PageNo) (w₁ : List ℕ) (ex : x ≡ laid_page free_page) (ec : c ≡ child_at f) (e₁ : w₁ ≡ with_struct w p c x) where
+    child_gone : Wrote p w (put_page (store_of w).pages (child_at f) free_page) w₁
+    child_gone = rw (e₁, ex, ec) (page-put p w h (child_at f) free_page (omega arith) none)
+
+    pub freed_ready : IsReady w₁
+    freed_ready = ready_own p w₁ child_gone.ready
+
+    pub freed : (y : Page) (w₂ : List ℕ) → y ≡ removed f.page f.place → w₂ ≡ with_struct w₁ (page_count w₁) f.at y → Wrote p w (child_freed (store_of w).pages f) w₂
     freed y w₂ ey e₂ =
-        let es = without (contents g).places i in
-        let laid : y ≡ laid_page (with_places (contents g) es) = ey ∙ ap (λ g. removed g i) l.laid ∙ laid_removed (contents g) (laid_few g l) i inside in
-        let few : length es ≤ 8 = omega (arith, without-length (contents g).places i inside, laid_few g l) in
-        let second : Wrote p w₁ (put_page (store_of w₁).pages at (with_places (contents g) es)) w₂ = rw (e₂, laid) (page-put p w₁ child_gone.ready at (with_places (contents g) es) few (all_without (contents g).places i l.proper)) in
+        let es = without g.places f.place in
+        let laid : y ≡ laid_page (with_places g es) = ey ∙ ap (λ g. removed g f.place) f.laid.laid ∙ laid_removed g few f.place inside in
+        let fewer : length es ≤ 8 = omega (arith, without-length g.places f.place inside, few) in
+        let second : Wrote p w₁ (put_page (store_of w₁).pages f.at (with_places g es)) w₂ =
+        rw (e₂, laid, child_gone.ready.counted) (page-put p w₁ child_gone.ready f.at (with_places g es) fewer (all_without g.places f.place (parent_laid f).proper)) in
         wrote_then child_gone (rw (wrote_pages child_gone) at second)
 
-  pub renewed : (x : Entry) (y : Page) (w' : List ℕ) → x ≡ child_place (store_of w).pages c → y ≡ with_place g i x → w' ≡ with_struct w p at y
-      → Wrote p w (child_renewed (store_of w).pages at (contents g) i c) w'
-  renewed x y w' ex ey e =
-      let z = child_place (store_of w).pages c in
-      let es = set (contents g).places i z in
-      let laid : y ≡ laid_page (with_places (contents g) es) = ey ∙ ap₂ (λ g x. with_place g i x) l.laid ex ∙ laid_set (contents g) (laid_few g l) i z inside in
-      rw (e, laid) (page-put p w h at (with_places (contents g) es) (rw length-set (laid_few g l)) (all_set l.proper i (child_proper p w h c)))
+  pub renewed : (c : PageNo) (x : Entry) (y : Page) (w' : List ℕ) → c ≡ child_at f → x ≡ child_place (store_of w).pages c → y ≡ with_place f.page f.place x → w' ≡ with_struct w p f.at y
+      → Wrote p w (child_renewed (store_of w).pages f) w'
+  renewed c x y w' ec ex ey e =
+      let z = child_place (store_of w).pages (child_at f) in
+      let es = set g.places f.place z in
+      let laid : y ≡ laid_page (with_places g es) = ey ∙ ap₂ (λ g x. with_place g f.place x) f.laid.laid (rw ec at ex) ∙ laid_set g few f.place z inside in
+      rw (e, laid) (page-put p w h f.at (with_places g es) (rw length-set few) (all_set (parent_laid f).proper f.place (child_proper p w h (child_at f))))
 
 -- ---- what waits from there
-module _ (p : ℕ) (w : List ℕ) (h : Ready p w) (level : ℕ) (at : PageNo) (g : Page) (i : ℕ) (c : PageNo) (os : List Orphan) (least : 1 ≤ level) (waits : Waits (level - 1) os)
-    (left : Page) (read : left ≡ struct_at w p c) where
-  here : contents left ≡ page_at (store_of w).pages c
-  here = read-contents p w h c left read
+module _ (p : ℕ) (w : List ℕ) (h : Ready p w) (level : ℕ) (f : Parent) (os : List Orphan) (least : 1 ≤ level) (waits : Waits (level - 1) os)
+    (left : Page) (c : PageNo) (named : c ≡ child_at f) (read : left ≡ struct_at w p c) where
+  here : contents left ≡ page_at (store_of w).pages (child_at f)
+  here = read-contents p w h c left read ∙ ap (page_at (store_of w).pages) named
 
-  many : left.count ≡ length (page_at (store_of w).pages c).places
+  many : left.count ≡ length (page_at (store_of w).pages (child_at f)).places
   many = laid_count left (read_laid p w h c left read) ∙ ap (λ (g : Contents). length g.places) here
 
   -- its used places, which wait if it is freed
@@ -93,21 +107,21 @@ module _ (p : ℕ) (w : List ℕ) (h : Ready p w) (level : ℕ) (at : PageNo) (g
   still : All (λ o. Placeable level (waiting o)) os
   still = all_map waits.placeable λ z k. record { level_most = omega (arith, k.level_most); proper = k.proper }
 
-  pub trimmed_out : (w' : List ℕ) (r : List Orphan) → left.count < 4 → Wrote p w (child_freed (store_of w).pages at (contents g) i c) w' → r ≡ os ++ news
-      → TrimmedTo p w level (trimmed_place level at (contents g) i c (so_far w os)) w' r
+  pub trimmed_out : (w' : List ℕ) (r : List Orphan) → left.count < 4 → Wrote p w (child_freed (store_of w).pages f) w' → r ≡ os ++ news
+      → TrimmedTo p w level (trimmed_place level f (so_far w os)) w' r
   trimmed_out w' r m t a =
-      let es = (page_at (store_of w).pages c).places in
+      let es = (page_at (store_of w).pages (child_at f)).places in
       let used : take left.count left.places ≡ es = laid_used left (read_laid p w h c left read) ∙ ap (λ (g : Contents). g.places) here in
       let held : held_by r ≡ held_by os ++ wait_at level es = rw (a, map-append waiting os news, used, map-map) refl in
-      let proper : All (λ o. Placeable level (waiting o)) news = rw used (all_mapped _ (all_map (page_proper p w h c) λ e k. record { level_most = omega arith; proper = k })) in
+      let proper : All (λ o. Placeable level (waiting o)) news = rw used (all_mapped _ (all_map (page_proper p w h (child_at f)) λ e k. record { level_most = omega arith; proper = k })) in
       either (λ z. TrimmedTo p w level z w' r) (ltb (length es) 4)
       (λ y. record { pages = t; orphans = held; waits = record { few = omega (arith, ap (length {A = Orphan}) a, length-append os news, news_length, waits.few); placeable = rw a (all_append still proper) } })
       (λ y. absurd (omega (arith, many, ltb-false (length es) 4 y)))
 
-  pub trimmed_stay : (w' : List ℕ) → 4 ≤ left.count → Wrote p w (child_renewed (store_of w).pages at (contents g) i c) w'
-      → TrimmedTo p w level (trimmed_place level at (contents g) i c (so_far w os)) w' os
+  pub trimmed_stay : (w' : List ℕ) → 4 ≤ left.count → Wrote p w (child_renewed (store_of w).pages f) w'
+      → TrimmedTo p w level (trimmed_place level f (so_far w os)) w' os
   trimmed_stay w' m t =
-      let es = (page_at (store_of w).pages c).places in
+      let es = (page_at (store_of w).pages (child_at f)).places in
       either (λ z. TrimmedTo p w level z w' os) (ltb (length es) 4)
       (λ y. absurd (omega (arith, many, ltb-true (length es) 4 y)))
       (λ y. record { pages = t; orphans = refl; waits = record { few = omega (arith, waits.few); placeable = still } })
@@ -157,23 +171,23 @@ module _ (p : ℕ) (w : List ℕ) (h : Readable p w) (depth : ℕ) (at q : PageN
     pub way_used : i < g.count
     way_used = omega (arith, by_path, next.0, laid_count g laid, ap (length {A = Entry}) used_here)
 
-    module _ (x : Entry) (at_place : x ≡ get_or g.places i no_place) where
-      there : x ≡ get_or es (first leads es) no_place
-      there = at_place ∙ laid_at g laid i ∙ rw (used_here, by_path) refl
+    module _ (f : Parent) (its_number : f.at ≡ at) (its_page : f.page ≡ g) (its_place : f.place ≡ i) where
+      there : get_or f.page.places f.place no_place ≡ get_or es (first leads es) no_place
+      there = rw (its_page, its_place) (laid_at g laid i ∙ rw (used_here, by_path) refl)
 
-      pub leaf_further : LeafBelow w (depth - 1) (child_of x) q
-      leaf_further = rw there next.1
+      pub leaf_further : (c : PageNo) → c ≡ child_at f → LeafBelow w (depth - 1) c q
+      leaf_further c e = rw (e, there) next.1
 
-      one_up : (mark : Stamp) (d : ℕ) → depth ≡ suc d → trimmed_in w mark depth at q ≡ trimmed_place depth at (page_at ps at) i (child_of x) (trimmed_in w mark d (child_of x) q)
+      one_up : (mark : Stamp) (d : ℕ) → depth ≡ suc d → trimmed_in w mark depth at q ≡ trimmed_place depth f (trimmed_in w mark d (child_at f) q)
       unfolding trimmed_below path_to
-      one_up mark d s = rw (there, by_path, s)
+      one_up mark d s = rw (there, its_number, its_page, its_place, read-contents p w h.ready at g read, by_path, s)
 
-      pub trimmed_deeper : (mark : Stamp) (w₁ : List ℕ) (o₁ : List Orphan) (w₂ : List ℕ) (o₂ : List Orphan) → TrimmedTo p w (depth - 1) (trimmed_in w mark (depth - 1) (child_of x) q) w₁ o₁
-          → TrimmedTo p w₁ depth (trimmed_place depth at (contents g) i (child_of x) (so_far w₁ o₁)) w₂ o₂ → TrimmedTo p w depth (trimmed_in w mark depth at q) w₂ o₂
-      trimmed_deeper mark w₁ o₁ w₂ o₂ one two =
-          let t = trimmed_in w mark (depth - 1) (child_of x) q in
-          let came : so_far w₁ o₁ ≡ t = λ j. record { pages = wrote_pages one.pages j; orphans = one.orphans j } in
-          let both : TrimmedTo p w₁ depth (trimmed_place depth at (page_at ps at) i (child_of x) t) w₂ o₂ =
-          subst (λ r. TrimmedTo p w₁ depth (trimmed_place depth at (page_at ps at) i (child_of x) r) w₂ o₂) came
-          (subst (λ g. TrimmedTo p w₁ depth (trimmed_place depth at g i (child_of x) (so_far w₁ o₁)) w₂ o₂) (read-contents p w h.ready at g read) two) in
-          rw (one_up mark (depth - 1) (omega arith)) (record { pages = wrote_then one.pages both.pages; orphans = both.orphans; waits = both.waits })
+      pub trimmed_deeper : (c : PageNo) (mark : Stamp) (w₁ : List ℕ) (o₁ : List Orphan) (w₂ : List ℕ) (o₂ : List Orphan) → c ≡ child_at f
+          → TrimmedTo p w (depth - 1) (trimmed_in w mark (depth - 1) c q) w₁ o₁ → TrimmedTo (page_count w₁) w₁ depth (trimmed_place depth f (so_far w₁ o₁)) w₂ o₂
+          → TrimmedTo p w depth (trimmed_in w mark depth at q) w₂ o₂
+      trimmed_deeper c mark w₁ o₁ w₂ o₂ named one two =
+          let t = trimmed_in w mark (depth - 1) (child_at f) q in
+          let first : TrimmedTo p w (depth - 1) t w₁ o₁ = rw named at one in
+          let came : so_far w₁ o₁ ≡ t = λ j. record { pages = wrote_pages first.pages j; orphans = first.orphans j } in
+          let both : TrimmedTo p w₁ depth (trimmed_place depth f t) w₂ o₂ = subst (λ r. TrimmedTo p w₁ depth (trimmed_place depth f r) w₂ o₂) came (rw one.pages.ready.counted at two) in
+          rw (one_up mark (depth - 1) (omega arith)) (record { pages = wrote_then first.pages both.pages; orphans = both.orphans; waits = both.waits })

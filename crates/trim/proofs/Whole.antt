@@ -16,13 +16,12 @@ use Rattle.rules.specs.Memo.{is_latest}
 use Rattle.rules.specs.Tree.{Tree, tree_of}
 use Rattle.rules.specs.Cleaning.{Trimmed, put_back, given_way, cleaned}
 use Rattle.rules.specs.laws.All.{none}
-use Rattle.rules.specs.laws.Header.{pages_there}
 use Rattle.page.specs.declared.Page.{Page}
 use Rattle.page.specs.Struct.{contents, laid_page, struct_at, with_struct}
-use Rattle.tree.specs.Putting.{Ready, Wrote, Grown}
-use Rattle.tree.specs.Laws.{laid_count, laid_at, room, levels_read, root_read, read_laid, read-contents, page-put, grown_from, grown_then, grown_tree, wrote_grown, grown_same}
+use Rattle.tree.specs.Putting.{Ready, page_count, IsReady, Wrote, Grown}
+use Rattle.tree.specs.Laws.{laid_count, laid_at, room, ready_own, levels_read, root_read, read_laid, read-contents, page-put, grown_from, grown_then, grown_tree, wrote_grown, grown_same}
 use Rattle.trim.specs.declared.Orphan.{Orphan}
-use Rattle.trim.specs.Trimming.{Readable, held_by, Waits, LeafBelow, trimmed_in, TrimmedTo, root_lowered, Cleanable}
+use Rattle.trim.specs.Trimming.{held_by, Waits, LeafBelow, trimmed_in, TrimmedTo, root_lowered, Cleanable}
 use Rattle.trim.proofs.Back.{back_levels}
 
 -- ---- a root with one child
@@ -74,13 +73,7 @@ module _ (p : ℕ) (w : List ℕ) (h : Ready p w) (root : PageNo) (at : root ≡
       rw (eq-eqb _ _ (kind_is ∙ k), eq-eqb _ _ (many ∙ n), ← there) t
 
 -- ---- one after the other
-module _ (w : List ℕ) (q : PageNo) (h : Cleanable q w) (p levels : ℕ) (counted : p ≡ get_or w 5 0) (read : levels ≡ get_or w 3 0) where
-  all_pages : p ≡ length (store_of w).pages
-  all_pages = counted ∙ rw h.readable.ready.written at (pages_there (store_of w))
-
-  pub count-read : Readable p w
-  count-read = rw all_pages h.readable
-
+module _ (w : List ℕ) (q : PageNo) (h : Cleanable q w) (levels : ℕ) (read : levels ≡ get_or w 3 0) where
   levels_are : levels ≡ (store_of w).levels
   levels_are = read ∙ levels_read _ w h.readable.ready
 
@@ -97,7 +90,7 @@ module _ (w : List ℕ) (q : PageNo) (h : Cleanable q w) (p levels : ℕ) (count
     pub leaf_there : LeafBelow w (levels - 1) root q
     leaf_there = rw (levels_are, root_is) h.leaf
 
-    module _ (mark : Stamp) (w₁ : List ℕ) (o : List Orphan) (t : TrimmedTo p w (levels - 1) (trimmed_in w mark (levels - 1) root q) w₁ o) where
+    module _ (mark : Stamp) (w₁ : List ℕ) (o : List Orphan) (t : TrimmedTo (page_count w) w (levels - 1) (trimmed_in w mark (levels - 1) root q) w₁ o) where
       levels_kept : (store_of w₁).levels ≡ (store_of w).levels
       levels_kept = ap (λ s. s.levels) t.pages.stored
 
@@ -107,24 +100,23 @@ module _ (w : List ℕ) (q : PageNo) (h : Cleanable q w) (p levels : ℕ) (count
       pub trimmed_waits : Waits ((store_of w₁).levels - 1) o
       trimmed_waits = rw (levels_kept, ← levels_are) t.waits
 
-      module _ (os : List Orphan) (same : os ≡ o) (w₂ : List ℕ) (put : Grown (length (store_of w₁).pages) w₁ (put_back (held_by os) (tree_of (store_of w₁))) w₂) where
-        back : Grown (length (store_of w₁).pages) w₁ (put_back (held_by o) (tree_of (store_of w₁))) w₂
-        back = rw same at put
+      module _ (os : List Orphan) (same : os ≡ o) (w₂ : List ℕ) (put : Grown (page_count w₁) w₁ (put_back (held_by os) (tree_of (store_of w₁))) w₂) where
+        back : Grown (page_count w) w₁ (put_back (held_by o) (tree_of (store_of w₁))) w₂
+        back = rw (same, t.pages.ready.counted) at put
 
-        pub back_count : Ready p w₂
-        back_count = rw t.pages.ready.counted at back.ready
+        pub back_ready : IsReady w₂
+        back_ready = ready_own _ w₂ back.ready
 
         pub back_some : 1 ≤ (store_of w₂).levels
         back_some = omega (arith, ap (λ (t : Tree). t.levels) (grown_tree back), (back_levels (held_by o) (tree_of (store_of w₁))).0, levels_kept, h.levels_least)
 
-        pub all_clean : (w₃ : List ℕ) → Grown p w₂ (given_way (tree_of (store_of w₂))) w₃
-            → Grown (length (store_of w).pages) w (cleaned (keep (is_latest (store_of w).memo)) mark q (tree_of (store_of w))) w₃
+        pub all_clean : (w₃ : List ℕ) → Grown (page_count w₂) w₂ (given_way (tree_of (store_of w₂))) w₃
+            → Grown (page_count w) w (cleaned (keep (is_latest (store_of w).memo)) mark q (tree_of (store_of w))) w₃
         unfolding cleaned
         all_clean w₃ last =
             let s = store_of w in
             let made : Trimmed → Tree = λ r. given_way (put_back r.orphans (record { root = s.root; levels = s.levels; pages = r.pages })) in
             let after : given_way (tree_of (store_of w₂)) ≡ made (trimmed_in w mark (levels - 1) root q) = ap given_way (grown_tree back ∙ ap₂ put_back t.orphans (grown_tree (wrote_grown t.pages))) in
             let alike : made (trimmed_in w mark (levels - 1) root q) ≡ made (trimmed_in w mark (s.levels - 1) s.root q) = ap₂ (λ n r. made (trimmed_in w mark (n - 1) r q)) levels_are root_is in
-            let then : Grown p w₁ (put_back (held_by o) (tree_of (store_of w₁))) w₂ = rw t.pages.ready.counted at back in
-            subst (λ n. Grown n w (made (trimmed_in w mark (s.levels - 1) s.root q)) w₃) all_pages
-            (subst (λ z. Grown p w z w₃) (after ∙ alike) (grown_then (wrote_grown t.pages) (grown_then then last)))
+            let then : Grown (page_count w) w₂ (given_way (tree_of (store_of w₂))) w₃ = rw back.ready.counted at last in
+            subst (λ z. Grown (page_count w) w z w₃) (after ∙ alike) (grown_then (wrote_grown t.pages) (grown_then back then))

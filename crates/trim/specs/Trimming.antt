@@ -1,19 +1,21 @@
 -- What cleaning asks of a store's words, what it leaves, and what waits meanwhile to be put back.
-use Rattle.std.specs.Prelude.{ℕ, ◌*◌, ◌-◌, ◌≤◌, ◌≡◌, Bool, cond, Option, List, ◌++◌, map, ltb, length, set}
+use Rattle.std.specs.Prelude.{ℕ, ◌*◌, ◌-◌, ◌≤◌, ◌≡◌, Bool, cond, Option, List, ◌++◌, map, ltb, length, get_or, set}
 use Rattle.std.specs.List.{position}
 use Rattle.rules.specs.declared.Stamp.{Stamp}
 use Rattle.rules.specs.declared.PageNo.{PageNo}
 use Rattle.rules.specs.declared.Entry.{Entry}
 use Rattle.rules.specs.Lists.{keep, without}
-use Rattle.rules.specs.Store.{Page as Contents, Store, child_of, free_page, page_at, put_page, store_of}
+use Rattle.rules.specs.Store.{Page as Contents, Store, child_of, free_page, no_place, page_at, put_page, store_of}
 use Rattle.rules.specs.Memo.{is_latest}
 use Rattle.rules.specs.Tree.{Tree, with_places, child_place}
 use Rattle.rules.specs.Cleaning.{Orphan as Waiting, Trimmed, reached_under, among, path_to, trimmed_below}
 use Rattle.rules.specs.Views.{MemoInRange, ProperBox}
 use Rattle.rules.specs.laws.All.{All}
 use Rattle.theorems.specs.LeafToClean.{Followed}
-use Rattle.tree.specs.Putting.{Ready, Wrote}
+use Rattle.tree.specs.Putting.{Ready, page_count, Wrote}
+use Rattle.page.specs.Struct.{contents}
 use Rattle.trim.specs.declared.Orphan.{Orphan}
+use Rattle.trim.specs.declared.parent.Parent.{Parent}
 
 -- ---- what is asked for
 -- the words of a store of p pages, whose memo can be looked up in
@@ -21,6 +23,10 @@ pub record Readable (p : ℕ) (w : List ℕ) : Type 0 where
   pub ready : Ready p w
   pub slots_most : (store_of w).slots ≤ 1_024
   pub memo : MemoInRange (store_of w).slots (store_of w).memo
+
+-- those of a store of as many pages as it has
+abbrev pub IsReadable : List ℕ → Type 0
+IsReadable w = Readable (page_count w) w
 
 -- ---- what a leaf keeps, and what it loses
 -- page `at` with only those of its places that pass the test
@@ -75,19 +81,27 @@ trimmed_in w mark depth at q =
 abbrev pub so_far : List ℕ → List Orphan → Trimmed
 so_far w os = record { pages = (store_of w).pages; orphans = held_by os }
 
--- page `at` with the contents g, whose child c, in place i, is freed; or has its box made anew
-abbrev pub child_freed : List Contents → PageNo → Contents → ℕ → PageNo → List Contents
-child_freed ps at g i c = put_page (put_page ps c free_page) at (with_places g (without g.places i))
+-- the child page
+abbrev pub child_at : Parent → PageNo
+child_at f = child_of (get_or f.page.places f.place no_place)
 
-abbrev pub child_renewed : List Contents → PageNo → Contents → ℕ → PageNo → List Contents
-child_renewed ps at g i c = put_page ps at (with_places g (set g.places i (child_place ps c)))
+-- the parent, whose child is freed; or has its box made anew
+abbrev pub child_freed : List Contents → Parent → List Contents
+child_freed ps f =
+    let g = contents f.page in
+    put_page (put_page ps (child_at f) free_page) f.at (with_places g (without g.places f.place))
+
+abbrev pub child_renewed : List Contents → Parent → List Contents
+child_renewed ps f =
+    let g = contents f.page in
+    put_page ps f.at (with_places g (set g.places f.place (child_place ps (child_at f))))
 
 -- once the child, which stands at this level, has been trimmed
-abbrev pub trimmed_place : ℕ → PageNo → Contents → ℕ → PageNo → Trimmed → Trimmed
-trimmed_place level at g i c r =
-    let left = (page_at r.pages c).places in
-    let out : Trimmed = record { pages = child_freed r.pages at g i c; orphans = r.orphans ++ wait_at level left } in
-    let stay : Trimmed = record { pages = child_renewed r.pages at g i c; orphans = r.orphans } in
+abbrev pub trimmed_place : ℕ → Parent → Trimmed → Trimmed
+trimmed_place level f r =
+    let left = (page_at r.pages (child_at f)).places in
+    let out : Trimmed = record { pages = child_freed r.pages f; orphans = r.orphans ++ wait_at level left } in
+    let stay : Trimmed = record { pages = child_renewed r.pages f; orphans = r.orphans } in
     cond (ltb (length left) 4) out stay
 
 -- the pages are as the rules say, and so is what waits

@@ -10,13 +10,16 @@ ghost use Rattle.rules.specs.Tree.{with_places, tree_of};
 ghost use Rattle.rules.specs.Cleaning.{put_back, given_way, cleaned};
 ghost use Rattle.page.specs.Struct.{contents, laid_page};
 ghost use Rattle.memo.specs.Slots.{HoldsMemo};
-ghost use Rattle.tree.specs.Putting.{Ready, Laid, Wrote, Grown};
-ghost use Rattle.trim.specs.Trimming.{Readable, page_kept, leads_to, way, at_level, Waits, trimmed_in, child_freed, child_renewed, trimmed_place, so_far, TrimmedTo, LeafBelow, held_by, root_lowered, Cleanable};
+ghost use Rattle.tree.specs.Putting.{page_count, IsReady, Laid, Wrote, Grown};
+ghost use Rattle.trim.specs.Trimming.{Readable, IsReadable, page_kept, leads_to, way, at_level, Waits, trimmed_in, child_freed, child_renewed, trimmed_place, so_far, TrimmedTo, LeafBelow, held_by, root_lowered, Cleanable};
 
 use arrayvec::ArrayVec;
 use page::Page;
+use parent::Parent;
 use rules::kind::Kind;
 use rules::{Entry, PageNo, Stamp};
+
+mod parent;
 
 // A place that waits to be put back, and the level of the page that it goes into.
 #[derive(Clone, Copy, Debug, Default, PartialEq, Eq)]
@@ -31,13 +34,13 @@ type Orphans = ArrayVec<Orphan, 12>;
 // ---- what a leaf keeps
 
 // Page `at` with only those of its places that pass the test, in their order.
-#[tactic(auto, using(tree::specs::Laws::header_room, crate::proofs::Keeping::pages_room, crate::proofs::Keeping::count_most))]
+#[tactic(auto, using(crate::proofs::Keeping::count_most))]
 fn kept_in<F: Fn(Entry) -> bool>(store: &[u32], at: PageNo, passes: F) -> Page
-    requires readable { Readable (length (store_of store.now).pages) store.now }
+    requires readable { IsReadable store.now }
     requires callable { F.IsAlwaysCallable passes }
     ensures { (test : Entry → Bool) → ((e : Entry) (b : Bool) → F.post passes e b → b ≡ test e) → result ≡ laid_page (page_kept test (store_of store.now) at) }
 {
-    let g = page::page_at(store, header::pages(store), at);
+    let g = tree::page_of(store, at);
     let mut r = Page {
         kind: g.kind,
         mark: g.mark,
@@ -73,23 +76,22 @@ pub fn obsolete_in(store: &[u32], at: PageNo) -> Page
 
 // Whether q is among the pages under page `at`, itself one of them, which stands at this level; no leaf is read.
 #[cycle(reaches_way_to)]
-#[tactic(auto, using(tree::specs::Laws::room))]
-fn reaches(store: &[u32], p: usize, level: u32, at: PageNo, q: PageNo) -> bool
-    requires { Ready p store.now × (1 ≤ level) }
+fn reaches(store: &[u32], level: u32, at: PageNo, q: PageNo) -> bool
+    requires { IsReady store.now × (1 ≤ level) }
     ensures { result ≡ leads_to (store_of store.now).pages level q at }
 {
-    at == q || (level > 1 && way_to(store, p, level - 1, page::page_at(store, p, at), q).is_some())
+    at == q || (level > 1 && way_to(store, level - 1, tree::page_of(store, at), q).is_some())
 }
 
 // The first place of g whose child, which stands at this level, leads to q.
 #[cycle(reaches_way_to)]
 #[tactic(auto, using(tree::specs::Laws::laid_most))]
-fn way_to(store: &[u32], p: usize, level: u32, g: Page, q: PageNo) -> Option<usize>
-    requires { Ready p store.now × Laid g × (1 ≤ level) }
+fn way_to(store: &[u32], level: u32, g: Page, q: PageNo) -> Option<usize>
+    requires { IsReady store.now × Laid g × (1 ≤ level) }
     ensures { result ≡ way (store_of store.now).pages level q (contents g).places }
 {
     for (i, e) in g.places[..g.count as usize].iter().enumerate() {
-        if reaches(store, p, level, PageNo(e.key), q) {
+        if reaches(store, level, PageNo(e.key), q) {
             return Some(i);
         }
     }
@@ -109,90 +111,74 @@ fn add_orphans(waiting: &mut Orphans, level: u32, places: &[Entry])
 }
 
 // The leaf keeps its latest entries and gets the mark.
-#[tactic(auto, using(tree::specs::Laws::room))]
-fn trim_leaf(store: &mut [u32], p: usize, at: PageNo, mark: Stamp)
-    requires { Readable p store.old }
-    ensures { Wrote p store.old (trimmed_in store.old mark 0 at at).pages store.new }
+fn trim_leaf(store: &mut [u32], at: PageNo, mark: Stamp)
+    requires { IsReadable store.old }
+    ensures { Wrote (page_count store.old) store.old (trimmed_in store.old mark 0 at at).pages store.new }
 {
     let g = Page {
         kind: Kind::Leaf as u32,
         mark,
         ..latest_in(store, at)
     };
-    page::put_page(store, p, at, g);
+    tree::put_page(store, at, g);
 }
 
-// Frees page c, which page `at`, read as g, has in place i: its place there goes too.
-#[tactic(auto, using(tree::specs::Laws::room, tree::specs::Laws::laid_most, crate::proofs::Thin::freed_room))]
-fn free_child(store: &mut [u32], p: usize, at: PageNo, g: Page, i: usize, c: PageNo)
-    requires { Ready p store.old × Laid g × (i < g.count) }
-    ensures { Wrote p store.old (child_freed (store_of store.old).pages at (contents g) i c) store.new }
+// Frees the parent's child: its place there goes too.
+fn free_child(store: &mut [u32], parent: Parent)
+    requires { IsReady store.old }
+    ensures { Wrote (page_count store.old) store.old (child_freed (store_of store.old).pages parent) store.new }
 {
-    page::put_page(store, p, c, page::empty_page());
-    page::put_page(store, p, at, page::remove_place(g, i));
-}
-
-// Makes the box of page c anew, which page `at`, read as g, has in place i.
-#[tactic(auto, using(tree::specs::Laws::room))]
-fn renew_child(store: &mut [u32], p: usize, at: PageNo, g: Page, i: usize, c: PageNo)
-    requires { Ready p store.old × Laid g × (i < g.count) }
-    ensures { Wrote p store.old (child_renewed (store_of store.old).pages at (contents g) i c) store.new }
-{
-    page::put_page(
+    tree::put_page(store, parent.child(), page::empty_page());
+    tree::put_page(
         store,
-        p,
-        at,
-        page::set_place(g, i, tree::child_place(store, p, c)),
+        parent.at,
+        page::remove_place(parent.page, parent.place),
     );
 }
 
-// Page `at`, read as g, once its child c at this level, in place i, has been trimmed: a thin child is freed and its places wait.
-#[tactic(auto, using(tree::specs::Laws::room, tree::specs::Laws::read_laid))]
-fn trim_place(
-    store: &mut [u32],
-    p: usize,
-    level: u32,
-    at: PageNo,
-    g: Page,
-    i: usize,
-    c: PageNo,
-    waiting: &mut Orphans,
-)
-    requires { Ready p store.old × Laid g × (i < g.count) × (1 ≤ level) × (level ≤ 4) × Waits (level - 1) waiting.old.items }
-    ensures { TrimmedTo p store.old level (trimmed_place level at (contents g) i c (so_far store.old waiting.old.items)) store.new waiting.new.items }
+// Makes the box of the parent's child anew.
+fn renew_child(store: &mut [u32], parent: Parent)
+    requires { IsReady store.old }
+    ensures { Wrote (page_count store.old) store.old (child_renewed (store_of store.old).pages parent) store.new }
 {
-    let left = page::page_at(store, p, c);
+    let place = tree::child_place(store, parent.child());
+    tree::put_page(
+        store,
+        parent.at,
+        page::set_place(parent.page, parent.place, place),
+    );
+}
+
+// The parent, once its child at this level has been trimmed: a thin child is freed and its places wait.
+#[tactic(auto, using(tree::specs::Laws::read_laid))]
+fn trim_place(store: &mut [u32], level: u32, parent: Parent, waiting: &mut Orphans)
+    requires { IsReady store.old × (1 ≤ level) × (level ≤ 4) × Waits (level - 1) waiting.old.items }
+    ensures { TrimmedTo (page_count store.old) store.old level (trimmed_place level parent (so_far store.old waiting.old.items)) store.new waiting.new.items }
+{
+    let left = tree::page_of(store, parent.child());
     let is_thin = left.count < 4;
     if is_thin {
-        free_child(store, p, at, g, i, c);
+        free_child(store, parent);
         add_orphans(waiting, level, &left.places[..left.count as usize]);
     } else {
-        renew_child(store, p, at, g, i, c);
+        renew_child(store, parent);
     }
 }
 
 // Trims the leaf q, which stands `depth` levels below page `at`: it calls itself for the child that leads there.
-#[tactic(auto, using(tree::specs::Laws::room))]
-fn trim_below(
-    store: &mut [u32],
-    p: usize,
-    depth: u32,
-    at: PageNo,
-    q: PageNo,
-    mark: Stamp,
-) -> Orphans
-    requires { Readable p store.old × (depth ≤ 4) × LeafBelow store.old depth at q }
-    ensures { TrimmedTo p store.old depth (trimmed_in store.old mark depth at q) store.new result.items }
+fn trim_below(store: &mut [u32], depth: u32, at: PageNo, q: PageNo, mark: Stamp) -> Orphans
+    requires { IsReadable store.old × (depth ≤ 4) × LeafBelow store.old depth at q }
+    ensures { TrimmedTo (page_count store.old) store.old depth (trimmed_in store.old mark depth at q) store.new result.items }
 {
     if depth == 0 {
-        trim_leaf(store, p, at, mark);
+        trim_leaf(store, at, mark);
         return ArrayVec::new();
     }
-    let g = page::page_at(store, p, at);
-    let i = way_to(store, p, depth, g, q).unwrap();
-    let child = PageNo(page::place_at(g, i).key);
-    let mut waiting = trim_below(store, p, depth - 1, child, q, mark);
-    trim_place(store, p, depth, at, g, i, child, &mut waiting);
+    let g = tree::page_of(store, at);
+    let place = way_to(store, depth, g, q).unwrap();
+    let parent = Parent { at, page: g, place };
+    let mut waiting = trim_below(store, depth - 1, parent.child(), q, mark);
+    trim_place(store, depth, parent, &mut waiting);
     waiting
 }
 
@@ -200,9 +186,9 @@ fn trim_below(
 
 // Puts back what waits, in turn, each place into a page at its level.
 fn put_back(store: &mut [u32], waiting: &[Orphan])
-    requires ready { Ready (length (store_of store.old).pages) store.old }
+    requires ready { IsReady store.old }
     requires waits { ((store_of store.old).levels ≤ 5) × Waits ((store_of store.old).levels - 1) waiting.now }
-    ensures { Grown (length (store_of store.old).pages) store.old (put_back (held_by waiting.now) (tree_of (store_of store.old))) store.new }
+    ensures { Grown (page_count store.old) store.old (put_back (held_by waiting.now) (tree_of (store_of store.old))) store.new }
 {
     for o in waiting {
         tree::put_at(store, o.level, o.place);
@@ -210,27 +196,27 @@ fn put_back(store: &mut [u32], waiting: &[Orphan])
 }
 
 // Frees the root page; its child c is the root, one level lower.
-#[tactic(auto, using(tree::specs::Laws::header_room, tree::specs::Laws::room, crate::proofs::Whole::freed_header, crate::proofs::Whole::levels_some, crate::proofs::Whole::lowered_header))]
-fn lower_root(store: &mut [u32], p: usize, c: PageNo)
-    requires { Ready p store.old × (1 ≤ (store_of store.old).levels) }
-    ensures { Grown p store.old (root_lowered (tree_of (store_of store.old)) c) store.new }
+#[tactic(auto, using(tree::specs::Laws::header_room, crate::proofs::Whole::freed_header, crate::proofs::Whole::levels_some, crate::proofs::Whole::lowered_header))]
+fn lower_root(store: &mut [u32], c: PageNo)
+    requires { IsReady store.old × (1 ≤ (store_of store.old).levels) }
+    ensures { Grown (page_count store.old) store.old (root_lowered (tree_of (store_of store.old)) c) store.new }
 {
     let levels = header::levels(store);
     let root = header::root(store);
-    page::put_page(store, p, root, page::empty_page());
+    tree::put_page(store, root, page::empty_page());
     header::set_root(store, c);
     header::set_levels(store, levels - 1);
 }
 
 // An inner root with one child gives way to it.
-#[tactic(auto, using(tree::specs::Laws::room, tree::specs::Laws::header_room))]
-fn give_way(store: &mut [u32], p: usize)
-    requires { Ready p store.old × (1 ≤ (store_of store.old).levels) }
-    ensures { Grown p store.old (given_way (tree_of (store_of store.old))) store.new }
+#[tactic(auto, using(tree::specs::Laws::header_room))]
+fn give_way(store: &mut [u32])
+    requires { IsReady store.old × (1 ≤ (store_of store.old).levels) }
+    ensures { Grown (page_count store.old) store.old (given_way (tree_of (store_of store.old))) store.new }
 {
-    let g = page::page_at(store, p, header::root(store));
+    let g = tree::page_of(store, header::root(store));
     if g.kind == Kind::Inner as u32 && g.count == 1 {
-        lower_root(store, p, PageNo(g.places[0].key));
+        lower_root(store, PageNo(g.places[0].key));
     }
 }
 
@@ -239,10 +225,9 @@ pub fn clean_tree(store: &mut [u32], q: PageNo, mark: Stamp)
     requires { Cleanable q store.old }
     ensures { Grown (length (store_of store.old).pages) store.old (cleaned (keep (rules.is_latest (store_of store.old).memo)) mark q (tree_of (store_of store.old))) store.new }
 {
-    let p = header::pages(store);
     let root = header::root(store);
     let depth = header::levels(store) - 1;
-    let waiting = trim_below(store, p, depth, root, q, mark);
+    let waiting = trim_below(store, depth, root, q, mark);
     put_back(store, waiting.as_slice());
-    give_way(store, p);
+    give_way(store);
 }
