@@ -3,7 +3,7 @@ use Rattle.std.specs.Prelude.{ℕ, suc, ◌+◌, ◌-◌, ◌*◌, ◌%◌, ◌�
 use Rattle.std.proofs.Common.{arith, zero-add, add-one, sym, ◌∙◌, ap, length-drop, drop_of_length-le, drop-cons, take_at}
 use Rattle.std.proofs.lemmas.List.{nil_from_length}
 use mathlib.Core.List.{flat_map}
-use lib.Seq.{sets, length-sets, sets-eq}
+use lib.Seq.{sets, sets-eq}
 use Rattle.rules.specs.Lists.{first}
 use Rattle.rules.specs.Numbers.{first_met}
 use Rattle.rules.specs.Sound.{sound_words}
@@ -61,9 +61,6 @@ pub record Left (all before rest : List ℕ) (n : ℕ) (now : List ℕ) : Type 0
   pub count_left : n + length rest ≡ length all
   pub write_left : sets now n rest ≡ sets before 0 all
 
-pub all_left : (all before : List ℕ) → Left all before all 0 before
-all_left all before = record { count_left = omega arith; write_left = refl }
-
 module _ {all before rest : List ℕ} {n : ℕ} {now : List ℕ} (l : Left all before rest n now) where
   pub left_one : (x : ℕ) (later : List ℕ) → rest ≡ x ∷ later → Left all before later (n + 1) (set now n x)
   left_one x later e =
@@ -71,9 +68,6 @@ module _ {all before rest : List ℕ} {n : ℕ} {now : List ℕ} (l : Left all b
         count_left = omega (arith, l.count_left, ap length e);
         write_left = rw (add-one n) (rw e at l.write_left);
       }
-
-  pub left-length : length now ≡ length before
-  left-length = sym (length-sets now n rest) ∙ ap length l.write_left ∙ length-sets before 0 all
 
   pub left_none : rest ≡ [] → n ≤ length before → Put all before n now
   left_none e h =

@@ -145,15 +145,9 @@ module _ (w : List ℕ) (ok : Accepted w) where
     unfolding store_of
     counted = read ∙ sym (length-map (cut (get_or w 9 0) 86 (drop (boards_start (get_or w 5 0) (get_or w 7 0)) w)) board_of ∙ cut-length (get_or w 9 0) 86 (drop (boards_start (get_or w 5 0) (get_or w 7 0)) w))
 
-    pub boards_fit : Number w32 b
-    boards_fit = record { fits = omega (arith, boards_few) }
-
     module _ (i : ℕ) where
       pub board_inside : i < b → i < length (store_of w).boards
       board_inside h = omega (arith, counted)
-
-      pub board_room : (at to : ℕ) (out now : List ℕ) → i < b → at + 29216 ≤ length out → length now ≡ length out → to ≤ at + 913 * i → to + 913 ≤ length now
-      board_room at to out now h r l n = omega (arith, boards_few)
 
       module _ (out : List ℕ) (at : ℕ) (now : List ℕ) (to : ℕ) (p : Partly out at (boards_left w 0) now to (boards_left w i)) where
         pub board_more : i < b → (after : List ℕ) (e : ℕ) → Laid now to (open_lines i (board_at (store_of w) i)) after e → Partly out at (boards_left w 0) after e (boards_left w (i + 1))

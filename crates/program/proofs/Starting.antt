@@ -1,13 +1,11 @@
 -- What a start in a store of the right length comes to, and the first line. Assumes nothing.
-use Prim.Native.Nat.{ℕ, ◌+◌, ◌≤◌}
+use Prim.Native.Nat.{ℕ}
 use native.Mathlib.Omega.{arith}
 use mathlib.Core.Path.{◌≡◌, refl, sym, ◌∙◌, ap}
 use mathlib.Core.Bool.{Bool, true, false}
 use mathlib.Core.List.{List, map}
 use lib.Dec.{eqb}
-use lib.ListN.{length, take}
-use lib.Seq.{length-take-le}
-use borrow.Rule.Slice.PartMut.{put_mid}
+use lib.ListN.{length}
 use borrow.Author.Tests.{eq-eqb}
 use Rattle.rules.specs.Store.{words, store_of, store_length, fresh}
 use Rattle.rules.specs.Sound.{sizes_in_range}
@@ -77,10 +75,3 @@ module _ (p k b : ℕ) (w : List ℕ) (long : length w ≡ store_room p k b) (nu
   pub store_ran : (later : List (List ℕ)) → number ≡ 0 → (v : List ℕ) → v ≡ words (run (store_of w') (map step_of (steps_in later))).store → v ≡ started_left p k b later
   unfolding started_left
   store_ran later z v q = rw (begun z) (rw (fresh_there z) at q)
-
--- a store at the front of a lent space
-pub left_in_space : (space : List ℕ) (n : ℕ) → n ≤ 15_824 → 15_824 ≤ length space → (part left : List ℕ) → part ≡ left → length part ≡ length (take n space) → Laid space 0 left (put_mid 0 n space part) n
-left_in_space space n most room part left e l =
-    let there : 0 + n ≡ n = omega arith in
-    let m : n ≡ length left = sym (length-take-le n space (omega arith)) ∙ sym l ∙ ap length e in
-    record { room = omega arith; written = rw (e, ← m, there); ends = omega arith }

@@ -15,10 +15,10 @@ ghost use Rattle.program.specs.Left.{started_left, left};
 // The longest input that is looked at.
 pub const MOST_BYTES: usize = 65_536;
 
-// The longest output: the start, 5,461 steps and 32 boards of 16 rows.
+// Room for the longest output: the start, 5,461 steps and 32 boards of 16 rows.
 pub const OUTPUT_BYTES: usize = 209_446;
 
-// The largest store.
+// Room for the largest store.
 pub const STORE_WORDS: usize = 15_824;
 
 // As many steps as an input may hold, with room for a bad one, and their answers.
@@ -26,7 +26,7 @@ const STEP_WORDS: usize = 32_774;
 
 const ANSWER_WORDS: usize = 10_922;
 
-// How long a store of these sizes is; 0 where they are out of range, which a start then refuses.
+// How long a store of these sizes is. Where they are out of range it is 0, the length that is lent to the start which refuses them: an Option would become that 0 at its one use.
 #[tactic(auto, using(crate::proofs::Boards::no_room, crate::proofs::Boards::some_room, crate::proofs::Boards::room_most, crate::proofs::Boards::given_sizes))]
 fn store_length(p: u32, k: u32, b: u32) -> usize
     ensures { (result ≡ store_room p k b) × (result ≤ 15824) }
@@ -148,7 +148,7 @@ fn in_space(
     Performed { bytes, words }
 }
 
-// What the program prints for an input, laid out from the slice's start, and the store that the input leaves, at the front of a lent space. 209,446 bytes hold the longest: the start, 5,461 steps and 32 boards of 16 rows.
+// What the program prints for an input, laid out from the slice's start, and the store that the input leaves, at the front of a lent space.
 pub fn perform_in(input: &[u8], space: &mut [u32], out: &mut [u8]) -> Performed
     requires { (15824 ≤ length space.old) × (209446 ≤ length out.old) }
     ensures output_laid { Laid out.old 0 (spec.printed input.now) out.new result.bytes }
