@@ -129,11 +129,8 @@ fn free_child(store: &mut [u32], parent: Parent)
     ensures { Wrote (page_count store.old) store.old (child_freed (store_of store.old).pages parent) store.new }
 {
     tree::put_page(store, parent.child(), page::empty_page());
-    tree::put_page(
-        store,
-        parent.at,
-        page::remove_place(parent.page, parent.place),
-    );
+    let page = page::remove_place(parent.page, parent.place);
+    tree::put_page(store, parent.at, page);
 }
 
 // Makes the box of the parent's child anew.
@@ -142,11 +139,8 @@ fn renew_child(store: &mut [u32], parent: Parent)
     ensures { Wrote (page_count store.old) store.old (child_renewed (store_of store.old).pages parent) store.new }
 {
     let place = tree::child_place(store, parent.child());
-    tree::put_page(
-        store,
-        parent.at,
-        page::set_place(parent.page, parent.place, place),
-    );
+    let page = page::set_place(parent.page, parent.place, place);
+    tree::put_page(store, parent.at, page);
 }
 
 // The parent, once its child at this level has been trimmed: a thin child is freed and its places wait.
