@@ -15,6 +15,7 @@ pub fn proper_box(b: Box) -> bool
     b.x0 <= b.x1 && b.y0 <= b.y1 && b.x1 <= EDGE && b.y1 <= EDGE
 }
 
+// The same rule as a box's, said of its own type: the two may part later.
 pub fn proper_window(w: Window) -> bool
     ensures { result ≡ spec.proper_window w }
 {

@@ -17,7 +17,8 @@ use rules::{Box, Entry, PageNo, Stamp};
 
 mod part;
 
-// A page: one header with its eight places, of which the first `count` are used.
+// A page: one header with its eight places, of which the first `count` are used. The kind is a word, since page_at answers for any
+// words, also such as name no Kind.
 #[derive(Clone, Copy, Debug, PartialEq, Eq)]
 pub struct Page {
     pub kind: u32,
@@ -156,6 +157,7 @@ fn is_leaf(page: &[u32; 52]) -> bool
     page[0] == Kind::Leaf as u32
 }
 
+// The lowest free page; where there is none the answer is p, as the definition has it.
 pub fn lowest_free(store: &[u32], p: usize) -> PageNo
     requires { (p ≤ 192) × (16 + 52 * p ≤ length store.now) }
     ensures { result ≡ tree.lowest_free (rules.pages_of p (drop 16 store.now)) }
@@ -175,7 +177,7 @@ pub fn smallest_mark(store: &[u32], p: usize) -> Stamp
     Stamp(leaves.map(|page| page[2]).fold(u32::MAX, u32::min))
 }
 
-// The leaf with the smallest mark, the lowest page number on a tie.
+// The leaf with the smallest mark, the lowest page number on a tie; p where there is no leaf, as the definition has it.
 pub fn leaf_to_clean(store: &[u32], p: usize) -> PageNo
     requires { (p ≤ 192) × (16 + 52 * p ≤ length store.now) }
     ensures { result ≡ cleaning.leaf_to_clean (rules.pages_of p (drop 16 store.now)) }

@@ -35,7 +35,8 @@ fn put_key(keys: &mut [u64], n: usize, key: u64)
 
 // ---- what a store holds
 
-// Page `at`, whose words are lent on to be read; past the last there is an empty one.
+// Page `at`, whose words are lent on to be read; past the last there is an empty one. walk and tree have a function of the same one
+// line, each for what it knows of the store.
 #[tactic(auto, using(crate::proofs::Lent::header_room, crate::proofs::Lent::page_room, crate::proofs::Lent::page_laid))]
 fn page_of(store: &[u32], at: PageNo) -> Page
     requires { Searchable store.now }

@@ -26,7 +26,7 @@ pub struct Box {
     pub y1: u32,
 }
 
-// What a query asks about and a board watches.
+// What a query asks about and a board watches. A type of its own beside Box: the two have one rule today and may part later.
 #[derive(Clone, Copy, Debug, PartialEq, Eq)]
 pub struct Window {
     pub x0: u32,

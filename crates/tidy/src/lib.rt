@@ -17,7 +17,7 @@ fn is_zero(words: &[u32]) -> bool
     words.iter().all(|&word| word == 0)
 }
 
-// ---- a page's 52 words
+// ---- a page's 52 words; a board's, below, has the same four tests, but each asks something else, so that nothing is said twice
 
 // Word 3 and the places behind the used ones are zero, and a used count fits.
 fn page_padded(page: &[u32]) -> bool

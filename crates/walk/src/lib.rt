@@ -13,7 +13,7 @@ use page::Page;
 use rules::kind::Kind;
 use rules::{Entry, PageNo};
 
-// A tidy page as it stands in the store.
+// A tidy page as it stands in the store. query and tree have a function of the same one line, each for what it knows of the store.
 #[tactic(auto, using(crate::proofs::Pages::page_as_laid))]
 fn page_there(store: &[u32], at: PageNo) -> Page
     requires { TidyWords store.now }
