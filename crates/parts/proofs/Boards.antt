@@ -3,20 +3,16 @@ use Prim.Native.Nat.{ℕ, suc, ◌+◌, ◌-◌, ◌≤◌, ◌<◌}
 use native.Mathlib.Omega.{arith}
 use native.Mathlib.Numerals.{add-one}
 use mathlib.Core.Path.{◌≡◌, refl, sym, ◌∙◌, ap}
-use mathlib.Core.Bool.{Bool, true, false, not, ◌&&◌, ◌||◌}
+use mathlib.Core.Bool.{false≢true, Bool, true, false, ◌&&◌, ◌||◌}
 use mathlib.Core.List.{List, [], ◌∷◌, ◌++◌, map, append-nil, append_assoc, map-append}
 use lib.ListN.{length, get_or, take, drop, set, length-set, length-append, length-map, take-append-drop, drop_of_length-le}
 use lib.Seq.{drop-cons, take-suc, take_all, length-take-le, get_or_at, set_at}
-use borrow.Author.Tests.{not-true, not-false}
 use borrow.Rule.Slice.PartMut.{put_mid}
-use mir.Syntax.{w64}
-use mir.Val.{Fits as Number}
 use Rattle.rules.specs.declared.Train.{Train}
 use Rattle.rules.specs.declared.Row.{Row}
-use Rattle.rules.specs.declared.Window.{Window}
 use Rattle.rules.specs.Lists.{some_one, count, one_if}
 use Rattle.rules.specs.Boxes.{meets}
-use Rattle.rules.specs.Store.{Board, row_limit, closed, board_words, board_of, board_at, store_of}
+use Rattle.rules.specs.Store.{Board, Store, row_limit, closed, board_words, board_of, board_at, store_of}
 use Rattle.rules.specs.Boards.{is_open, lists, told, untold, overfull}
 use Rattle.rules.specs.laws.All.{All, all_map, all_zip, all_at, all_set}
 use Rattle.rules.specs.laws.Boards.{untold-closed, touched-told}
@@ -26,89 +22,50 @@ use Rattle.rules.specs.laws.Parts.{with_boards}
 use Rattle.rules.specs.laws.Placed.{board_back}
 use Rattle.board.specs.Rows.{BoardWords}
 use Rattle.parts.specs.InOrder.{BoardInOrder, Lent, Became}
-use Rattle.parts.specs.Laws.{lent_placed, lent_became, became, became_lent, became_then, order_boards, told_in_order, untold_in_order}
+use Rattle.parts.specs.Laws.{lent_placed, lent_became, became, became_lent, became_then, order_boards, told_in_order, untold_in_order, closed_in_order}
 use Rattle.parts.specs.BoardAt.{BoardAt}
 use Rattle.parts.specs.Promises.{touch, Told, ToldAll}
 
--- ---- one board's own words
-pub board_open : {v : List ℕ} {i a : ℕ} → BoardAt v i a → (o : Bool) → o ≡ is_open (board_of (take (a + 86 - a) (drop a v))) → o ≡ is_open (board_at (store_of v) i)
-board_open at o e = e ∙ ap is_open at.there
+-- ---- one board
+-- what a report comes to, from what is seen before it
+pub touch_told : (r : Row) (b : Board) → touch r.train b (told r b) ≡ one_if (is_open b && (lists r.train b || meets r.bounds b.window))
+touch_told r b = ap one_if (guarded (is_open b) _ _ λ o. rw (told-lists r b o))
+  where
+    guarded : (t x y : Bool) → (t ≡ true → x ≡ y) → (t && x) ≡ (t && y)
+    guarded true x y h = h refl
+    guarded false x y h = refl
 
-module _ (b : List ℕ) (o : Bool) (opens : o ≡ is_open (board_of b)) where
-  shut : not o ≡ true → is_open (board_of b) ≡ false
-  shut n = sym opens ∙ not-true o n
+-- what a withdrawal leaves
+module _ (t : Train) (w : List ℕ) (own : BoardWords w) where
+  abbrev b : Board
+  b = board_of w
 
-  opened : not o ≡ false → is_open (board_of b) ≡ true
-  opened n = sym opens ∙ not-false o n
-
-  -- whether a report touches it
-  module _ (r : Row) where
-    abbrev after : Board
-    after = told r (board_of b)
-
-    pub untouched : not o ≡ true → 0 ≡ touch r.train (board_of b) after
-    untouched n = rw (shut n)
-
-    module _ (n : not o ≡ false) (l : Bool) (before : l ≡ lists r.train (board_of b)) where
-      pub listed_before : l ≡ true → 1 ≡ touch r.train (board_of b) after
-      listed_before e = rw (opened n, sym before ∙ e)
-
-      module _ (e : l ≡ false) (w : Window) (seen : w ≡ (board_of b).window) (m : Bool) (tried : m ≡ meets r.bounds w) where
-        lists_after : lists r.train after ≡ m
-        lists_after = told-lists r (board_of b) (opened n) ∙ ap (meets r.bounds) (sym seen) ∙ sym tried
-
-        pub listed_after : m ≡ true → 1 ≡ touch r.train (board_of b) after
-        listed_after f = rw (opened n, sym before ∙ e, lists_after ∙ f)
-
-        pub listed_never : m ≡ false → 0 ≡ touch r.train (board_of b) after
-        listed_never f = rw (opened n, sym before ∙ e, lists_after ∙ f)
-
-  -- what a withdrawal leaves and answers
-  module _ (is : BoardWords b) (t : Train) where
-    pub shut_untold : not o ≡ true → Told t (board_of b) (untold t (board_of b)) b 0
-    shut_untold n =
-        record { wrote = sym (ap board_words (untold-closed t (board_of b) (shut n)) ∙ is.same); counted = rw (shut n) }
-
-    module _ (n : not o ≡ false) (l : Bool) (before : l ≡ lists t (board_of b)) where
-      pub unlisted_untold : not l ≡ true → Told t (board_of b) (untold t (board_of b)) b 0
-      unlisted_untold e =
-          let off = sym before ∙ not-true l e in
-          record {
-            wrote = sym (ap board_words (untold_same t (board_of b) off) ∙ is.same);
-            counted = rw (opened n, off, untold-lists t (board_of b) (opened n));
-          }
-
-      pub listed_untold : not l ≡ false → (w : List ℕ) → w ≡ board_words (untold t (board_of b)) → Told t (board_of b) (untold t (board_of b)) w 1
-      listed_untold e w new = record { wrote = new; counted = rw (opened n, sym before ∙ not-false l e) }
+  pub left_untold : (is_open b && lists t b) ≡ false → Told t b (untold t b) w 0
+  left_untold = go (is_open b) (lists t b) refl refl
+    where
+      go : (o l : Bool) → is_open b ≡ o → lists t b ≡ l → (o && l) ≡ false → Told t b (untold t b) w 0
+      go true true p q f = absurd (false≢true (sym f))
+      go true false p q f = record { wrote = sym (ap board_words (untold_same t b q) ∙ own.same); counted = rw (p, q, untold-lists t b p) }
+      go false l p q f = record { wrote = sym (ap board_words (untold-closed t b p) ∙ own.same); counted = rw p }
 
 -- ---- several boards, some one of which
--- what is left from board i on decides
-abbrev pub Looking : (Board → Bool) → List ℕ → ℕ → Type 0
-Looking f v i = some_one f (drop i (store_of v).boards) ≡ some_one f (store_of v).boards
+module _ (f : Board → Bool) (s : Store) (i : ℕ) where
+  pub looked_more : i < length s.boards → some_one f (drop i s.boards) ≡ (f (board_at s i) || some_one f (drop (i + 1) s.boards))
+  unfolding board_at
+  looked_more inside = rw (drop-cons s.boards i closed inside, add-one)
 
-module _ (f : Board → Bool) (v : List ℕ) (i : ℕ) (left : Looking f v i) where
-  abbrev bs : List Board
-  bs = (store_of v).boards
-
-  pub looked_at_all : length bs ≤ i → false ≡ some_one f bs
-  looked_at_all h = let e : drop i bs ≡ [] = drop_of_length-le bs {i = i} h in ap (some_one f) (sym e) ∙ left
-
-  module _ (inside : i < length bs) (a : ℕ) (at : BoardAt v i a) (t : Bool) (test : t ≡ f (board_of (take (a + 86 - a) (drop a v)))) where
-    turn : (t || some_one f (drop (suc i) bs)) ≡ some_one f bs
-    unfolding board_at
-    turn = rw (test, at.there) (rw (drop-cons bs i closed inside) at left)
-
-    pub looked_here : t ≡ true → true ≡ some_one f bs
-    looked_here e = rw e at turn
-
-    pub looked_on : t ≡ false → Looking f v (i + 1)
-    looked_on e = rw add-one (rw e at turn)
+  pub looked_none : length s.boards ≤ i → some_one f (drop i s.boards) ≡ false
+  looked_none h = rw (drop_of_length-le s.boards {i = i} h)
 
 -- ---- one board written
 pub board_became : {v : List ℕ} {i a : ℕ} → Lent v → i < length (store_of v).boards → BoardAt v i a → (b : Board) → BoardInOrder b → (ws : List ℕ) → ws ≡ board_words b
     → Became (with_boards (store_of v) (set (store_of v).boards i b)) (put_mid a (a + 86 - a) v ws)
 board_became {v} {i} {a} l inside at b o ws e =
     became (order_boards l.order (length-set (store_of v).boards i b) (all_set l.order.boards i o)) (board_back v (lent_placed v l) i a inside at.starts b ws e)
+
+pub board_closed : {v : List ℕ} {i from to : ℕ} → Lent v → i < length (store_of v).boards → BoardAt v i from → to ≡ from + 86 → (ws : List ℕ) → ws ≡ board_words closed
+    → Became (with_boards (store_of v) (set (store_of v).boards i closed)) (put_mid from (to - from) v ws)
+board_closed l inside at ends ws e = rw ends (board_became l inside at closed closed_in_order ws e)
 
 -- ---- all boards told, one after the other, by the same rule
 -- of the first i boards
@@ -157,15 +114,15 @@ pub record Telling (tell : Board → Board) (t : Train) (v w : List ℕ) (i n : 
   pub counted : n ≡ count (λ b. is_open b && (lists t b || lists t (tell b))) (take i (store_of v).boards)
   pub few : n ≤ i
 
-module _ (tell : Board → Board) (t : Train) (v : List ℕ) where
-  pub telling_none : Lent v → Telling tell t v v 0 0
+module _ (tell : Board → Board) (t : Train) (v : List ℕ) (l : Lent v) (keeps : All (λ b. BoardInOrder (tell b)) (store_of v).boards) where
+  abbrev all : List Board
+  all = (store_of v).boards
+
+  pub telling_none : Telling tell t v v 0 0
   unfolding so_far count
-  telling_none l = record { now = lent_became l; counted = refl; few = omega arith }
+  telling_none = record { now = lent_became l; counted = refl; few = omega arith }
 
   module _ (w : List ℕ) (i n : ℕ) (so : Telling tell t v w i n) where
-    abbrev all : List Board
-    all = (store_of v).boards
-
     pub telling_lent : Lent w
     telling_lent = became_lent so.now
 
@@ -180,43 +137,52 @@ module _ (tell : Board → Board) (t : Train) (v : List ℕ) where
       pub telling_inside : i < length (store_of w).boards
       telling_inside = omega (arith, ap (λ s. length s.boards) so.now.stored, so_far_long tell all i)
 
-      pub telling_adds : Lent v → (b c : Board) (ws : List ℕ) (r : ℕ) → Told t b c ws r → Number w64 (n + r)
-      telling_adds l b c ws r one =
-          record { fits = omega (arith, so.few, l.order.sizes.boards_most, one.counted, one_at_most (is_open b && (lists t b || lists t c))) }
+      module _ (from to : ℕ) (at : BoardAt w i from) (ends : to ≡ from + 86) where
+        -- board i as it is lent on
+        abbrev lent : List ℕ
+        lent = take (to - from) (drop from w)
 
-      module _ (a : ℕ) (at : BoardAt w i a) where
-        here : board_of (take (a + 86 - a) (drop a w)) ≡ get_or all i closed
+        there : board_of lent ≡ board_at (store_of w) i
+        there = rw ends at.there
+
+        here : board_of lent ≡ get_or all i closed
         unfolding board_at
-        here = at.there ∙ ap (λ s. board_at s i) so.now.stored ∙ so_far_here tell all i inside
+        here = there ∙ ap (λ s. board_at s i) so.now.stored ∙ so_far_here tell all i inside
 
-        pub telling_ascends : RowsAscend (board_of (take (a + 86 - a) (drop a w))).rows
+        kept : BoardInOrder (tell (get_or all i closed))
+        kept = all_at keeps i closed inside
+
+        pub telling_own : BoardWords lent
+        telling_own = rw ends at.own
+
+        pub telling_ascends : RowsAscend (board_of lent).rows
         unfolding board_at
-        telling_ascends = rw at.there (all_at telling_lent.order.boards i closed telling_inside).ascend
+        telling_ascends = rw there (all_at telling_lent.order.boards i closed telling_inside).ascend
 
-        module _ (keeps : All (λ b. BoardInOrder (tell b)) all) where
-          fits : length (tell (board_of (take (a + 86 - a) (drop a w)))).rows ≤ row_limit
-          fits = rw here (all_at keeps i closed inside).few
+        pub telling_fits : length (tell (board_of lent)).rows ≤ row_limit
+        telling_fits = rw here kept.few
 
-          pub telling_on : (ws : List ℕ) (r : ℕ) → Told t (board_of (take (a + 86 - a) (drop a w))) (tell (board_of (take (a + 86 - a) (drop a w)))) ws r
-              → Telling tell t v (put_mid a (a + 86 - a) w ws) (i + 1) (n + r)
-          telling_on ws r told =
-              let b = get_or all i closed in
-              let one : Told t b (tell b) ws r = rw here at told in
-              let next = board_became telling_lent telling_inside at (tell b) (all_at keeps i closed inside) ws one.wrote in
-              let both = became_then (λ s. with_boards s (set s.boards i (tell b))) so.now next in
-              record {
+        module _ (after : List ℕ) (r : ℕ) (told : Told t (board_of lent) (tell (board_of lent)) after r) where
+          abbrev old : Board
+          old = get_or all i closed
+
+          one : Told t old (tell old) after r
+          one = rw here at told
+
+          pub telling_on : Telling tell t v (put_mid from (to - from) w after) (i + 1) (n + r)
+          telling_on =
+              let next = board_became telling_lent telling_inside at (tell old) kept after one.wrote in
+              let both = became_then (λ s. with_boards s (set s.boards i (tell old))) so.now next in
+              rw ends
+              (record {
                 now = rw (so_far_on tell all i inside) at both;
                 counted = omega (arith, so.counted, one.counted, counted_on tell t all i inside);
-                few = omega (arith, so.few, one.counted, one_at_most (is_open b && (lists t b || lists t (tell b))));
-              }
+                few = omega (arith, so.few, one.counted, one_at_most (is_open old && (lists t old || lists t (tell old))));
+              })
 
 -- ---- what each telling keeps in order
 pub told_keeps : (v : List ℕ) (r : Row) → Lent v → some_one (overfull r) (store_of v).boards ≡ false → All (λ b. BoardInOrder (told r b)) (store_of v).boards
 told_keeps v r l f = all_zip l.order.boards (no_one_all (overfull r) (store_of v).boards f) (told_in_order r)
-
-pub told_fits : (v : List ℕ) (r : Row) (w : List ℕ) (i n : ℕ) → Telling (told r) r.train v w i n → i < length (store_of v).boards → (a : ℕ) → BoardAt w i a
-    → Lent v → some_one (overfull r) (store_of v).boards ≡ false → length (told r (board_of (take (a + 86 - a) (drop a w)))).rows ≤ row_limit
-told_fits v r w i n so inside a at l f = fits (told r) r.train v w i n so inside a at (told_keeps v r l f)
 
 pub untold_keeps : (v : List ℕ) (t : Train) → Lent v → All (λ b. BoardInOrder (untold t b)) (store_of v).boards
 untold_keeps v t l = all_map l.order.boards (untold_in_order t)

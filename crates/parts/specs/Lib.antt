@@ -3,3 +3,4 @@ pub mod InOrder
 pub mod Laws
 pub mod BoardAt
 pub mod Promises
+pub mod MemoAt

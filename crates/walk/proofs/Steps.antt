@@ -79,9 +79,6 @@ module _ (w : List ℕ) (l : ℕ) (p : PageNo) (fs : List Bool) (to : ToWalk w l
         inner_so : walks (store_of w).pages l p fs ≡ walks_all (store_of w).pages (l - 1) places one
         inner_so = rw (same, set-one) (inner_walks (store_of w).pages p fs l level_2 unseen (sym kind_read ∙ inner))
 
-        pub walk_starts : Walking (store_of w).pages (l - 1) places one (length places) 0 one
-        walk_starts = record { few = omega arith; so_far = refl; marks = refl; flags = long }
-
         module _ (i : ℕ) (now : List Bool) (walking : Walking (store_of w).pages (l - 1) places one (length places) i now) where
           pub walk_ends : length places ≤ i → Walked (store_of w).pages l p fs true now
           walk_ends h =
