@@ -14,6 +14,7 @@ ghost use Rattle.tree.specs.Putting.{Ready, Laid, Wrote, Grown};
 ghost use Rattle.trim.specs.Trimming.{Readable, page_kept, leads_to, way, at_level, Waits, trimmed_in, child_freed, child_renewed, trimmed_place, so_far, TrimmedTo, LeafBelow, held_by, root_lowered, Cleanable};
 
 use arrayvec::ArrayVec;
+use memo::view::Memo;
 use page::Page;
 use rules::kind::Kind;
 use rules::{Entry, PageNo, Stamp};
@@ -56,8 +57,8 @@ pub fn latest_in(store: &[u32], at: PageNo) -> Page
     requires { Readable (length (store_of store.now).pages) store.now }
     ensures { result ≡ laid_page (with_places (page_at (store_of store.now).pages at) (keep (rules.is_latest (store_of store.now).memo) (page_at (store_of store.now).pages at).places)) }
 {
-    let memo = memo::part(store);
-    kept_in(store, at, |e| memo::is_latest(memo, e))
+    let memo = Memo::of(store);
+    kept_in(store, at, |e| memo.is_latest(e))
 }
 
 // Page `at` with only those that are obsolete.
@@ -65,8 +66,8 @@ pub fn obsolete_in(store: &[u32], at: PageNo) -> Page
     requires { Readable (length (store_of store.now).pages) store.now }
     ensures { result ≡ laid_page (with_places (page_at (store_of store.now).pages at) (keep (rules.is_obsolete (store_of store.now).memo) (page_at (store_of store.now).pages at).places)) }
 {
-    let memo = memo::part(store);
-    kept_in(store, at, |e| !memo::is_latest(memo, e))
+    let memo = Memo::of(store);
+    kept_in(store, at, |e| !memo.is_latest(e))
 }
 
 // ---- the way to the leaf
