@@ -9,7 +9,7 @@ use Rattle.rules.specs.Live.{held_count}
 use Rattle.rules.specs.laws.Memo.{in_order}
 use Rattle.rules.specs.laws.Words.{words-length}
 use Rattle.memo.specs.Slots.{slots_in, HoldsMemo}
-use Rattle.memo.specs.Laws.{memo_given, memo_slots}
+use Rattle.memo.specs.Laws.{memo_slots}
 use Rattle.page.specs.Laws.{pages_length}
 use Rattle.theorems.specs.Leaves.{marked}
 use Rattle.entries.specs.declared.Noted.{Noted}
@@ -67,11 +67,9 @@ module _ {w : List ℕ} {p : ℕ} {next : Stamp} (K : Known w p next) where
 
   pub so_passing : {m : List ℕ} {n : ℕ} → m ≡ memo_words (store_of w).slots (store_of w).memo → n ≡ held_count (pages_of p (drop 16 w)) → n ≤ 3 * p → Passing w m p next
   so_passing {m} e q h =
-      let r = K.trusted.given.memo in
       record {
         known = K;
-        memo_given = memo_given _ _ r m e;
-        memo_is = memo_slots _ _ r m e;
+        memo_is = memo_slots _ _ K.trusted.given.memo m e;
         few = omega (arith, held_are q, K.pages_most);
       }
 

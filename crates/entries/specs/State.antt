@@ -5,7 +5,7 @@ use Rattle.rules.specs.declared.Slot.{Slot}
 use Rattle.rules.specs.Lists.{every}
 use Rattle.rules.specs.Store.{Store, store_of}
 use Rattle.rules.specs.Live.{held_count}
-use Rattle.memo.specs.Slots.{MemoWords, slots_in}
+use Rattle.memo.specs.Slots.{slots_in}
 use Rattle.theorems.specs.Leaves.{MarkedEntry, marked}
 use Rattle.entries.specs.declared.Noted.{Noted}
 use Rattle.entries.specs.Given.{Trusted}
@@ -22,7 +22,6 @@ pub record Known (w : List ℕ) (p : ℕ) (next : Stamp) : Type 0 where
 -- and lent the memo, of at most so many entries as the buffers take
 pub record Passing (w m : List ℕ) (p : ℕ) (next : Stamp) : Type 0 where
   pub known : Known w p next
-  pub memo_given : MemoWords m
   pub memo_is : slots_in m ≡ (store_of w).memo
   pub few : held_count (store_of w).pages ≤ most
 

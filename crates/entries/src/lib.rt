@@ -5,7 +5,7 @@ ghost use Rattle.std.specs.Prelude.{◌≡◌, ◌+◌, ◌≤◌, ◌<◌, leng
 ghost use Rattle.rules.specs.Lists.{every, distinct};
 ghost use Rattle.rules.specs.Store.{store_of};
 ghost use Rattle.theorems.specs.Leaves.{marked, with_mark};
-ghost use Rattle.memo.specs.Slots.{MemoWords, slots_in};
+ghost use Rattle.memo.specs.Slots.{slots_in};
 ghost use Rattle.page.specs.Struct.{contents};
 ghost use Rattle.entries.specs.Given.{Trusted};
 ghost use Rattle.entries.specs.Apart.{apart, Flagged, Says};
@@ -14,6 +14,7 @@ ghost use Rattle.entries.specs.State as state;
 ghost use Rattle.entries.specs.Apart as spec_apart;
 
 use arrayvec::ArrayVec;
+use memo::view::Memo;
 use page::Page;
 use rules::kind::Kind;
 use rules::{Entry, LookUp, PageNo, Slot, Stamp, Train};
@@ -115,12 +116,12 @@ fn count_one(counts: &mut [u32], at: Option<usize>)
 
 // The entry's stamp and key behind those so far, and its counter one up; whether the entry is sound.
 #[tactic(auto, using(crate::proofs::Gather::counter_there), unfolding(crate::specs::Passes::entry_fine, crate::specs::Passes::key_of, crate::specs::Passes::counter_of))]
-fn note_entry(memo: &[u32], next: Stamp, mark: Stamp, e: Entry, noted: &mut Noted) -> bool
-    requires memo_words { MemoWords memo.now × (length (slots_in memo.now) ≤ spec.counters) }
+fn note_entry(memo: Memo, next: Stamp, mark: Stamp, e: Entry, noted: &mut Noted) -> bool
+    requires slots_few { length (slots_in memo.words.now) ≤ spec.counters }
     requires room { state.Room noted.old }
-    ensures { state.OneMore next (slots_in memo.now) (with_mark mark e) noted.old result noted.new }
+    ensures { state.OneMore next (slots_in memo.entry.words.now) (with_mark mark e) noted.old result noted.new }
 {
-    let l = memo::look_up(memo, Train(e.key));
+    let l = memo.look_up(Train(e.key));
     let at = old_place(l, e.stamp);
     noted.stamps.push(u64::from(e.stamp.0));
     noted.keys.push(key_by(at, e));
@@ -130,15 +131,8 @@ fn note_entry(memo: &[u32], next: Stamp, mark: Stamp, e: Entry, noted: &mut Note
 
 // The entries of page i, each noted in turn up to one that is not sound; a page that is no leaf holds none.
 #[tactic(auto, using(crate::proofs::Pages::count_fits))]
-fn note_page(
-    store: &[u32],
-    memo: &[u32],
-    p: usize,
-    i: usize,
-    next: Stamp,
-    noted: &mut Noted,
-) -> bool
-    requires passing { state.Passing store.now memo.now p next × (i < p) }
+fn note_page(store: &[u32], memo: Memo, p: usize, i: usize, next: Stamp, noted: &mut Noted) -> bool
+    requires passing { state.Passing store.now memo.words.now p next × (i < p) }
     requires before { state.Before store.now i noted.old }
     ensures { state.Tried (store_of store.now) (marked (take (i + 1) (store_of store.now).pages)) result noted.new }
 {
@@ -156,8 +150,8 @@ fn note_page(
 }
 
 // The entries of all pages, up to one that is not sound.
-fn note_pages(store: &[u32], memo: &[u32], p: usize, next: Stamp, noted: &mut Noted) -> bool
-    requires passing { state.Passing store.now memo.now p next }
+fn note_pages(store: &[u32], memo: Memo, p: usize, next: Stamp, noted: &mut Noted) -> bool
+    requires passing { state.Passing store.now memo.words.now p next }
     requires fresh { state.Fresh noted.old }
     ensures { state.Tried (store_of store.now) (marked (store_of store.now).pages) result noted.new }
 {
@@ -251,14 +245,13 @@ fn slot_fine(s: Slot, n: u32, next: Stamp) -> bool
 }
 
 // Every used slot with its counter.
-#[tactic(auto, using(crate::proofs::Slots::slots_past, crate::proofs::Slots::slots_unused, crate::proofs::Slots::slot_broken, crate::proofs::Slots::slot_passed))]
-fn slots_fine(memo: &[u32], counts: &[u32], next: Stamp) -> bool
-    requires memo_words { MemoWords memo.now }
-    requires memo_in_bounds { length (slots_in memo.now) ≤ length counts.now }
-    ensures { result ≡ spec.slots_fine next counts.now (slots_in memo.now) }
+#[tactic(auto, using(memo::specs::Kept::its_words, crate::proofs::Slots::slots_past, crate::proofs::Slots::slots_unused, crate::proofs::Slots::slot_broken, crate::proofs::Slots::slot_passed))]
+fn slots_fine(memo: Memo, counts: &[u32], next: Stamp) -> bool
+    requires memo_in_bounds { length (slots_in memo.words.now) ≤ length counts.now }
+    ensures { result ≡ spec.slots_fine next counts.now (slots_in memo.entry.words.now) }
 {
     for (i, &n) in counts.iter().enumerate() {
-        let s = memo::slot_at(memo, i);
+        let s = memo.slot_at(i);
         if s.train == Train(0) {
             return true;
         }
@@ -272,8 +265,8 @@ fn slots_fine(memo: &[u32], counts: &[u32], next: Stamp) -> bool
 // ---- all together
 
 // Each entry and each slot is sound, and neither two stamps nor two keys are equal.
-fn noted_sound(store: &[u32], memo: &[u32], p: usize, next: Stamp) -> bool
-    requires { state.Passing store.now memo.now p next }
+fn noted_sound(store: &[u32], memo: Memo, p: usize, next: Stamp) -> bool
+    requires { state.Passing store.now memo.words.now p next }
     ensures { result ≡ spec.noted_test (store_of store.now) }
 {
     let mut noted = Noted {
@@ -297,5 +290,5 @@ pub fn entries_sound(store: &[u32]) -> bool
     let next = header::next_stamp(store);
     marks_fine(store, p, next)
         && page::held_entries(store, p) <= 3 * p
-        && noted_sound(store, memo::part(store), p, next)
+        && noted_sound(store, Memo::of(store), p, next)
 }

@@ -1,8 +1,7 @@
 -- Slots that move up for a new one, and down for one that goes.
-use Rattle.std.proofs.Common.{ℕ, zero, suc, ◌≡◌, ◌+◌, ◌-◌, ◌*◌, ◌<◌, ◌≤◌, List, [], ◌∷◌, ◌++◌, length, get_or, take, drop, set, replicate, append_assoc, length-append, length-drop, take_all, drop-cons, add-one, append-nil, take-suc, length-take-le, refl, sym, ap, ◌∙◌, arith}
+use Rattle.std.proofs.Common.{ℕ, suc, ◌≡◌, ◌+◌, ◌-◌, ◌*◌, ◌<◌, ◌≤◌, List, [], ◌∷◌, ◌++◌, length, get_or, take, drop, set, replicate, append_assoc, length-append, length-drop, add-one, append-nil, take-suc, length-take-le, refl, sym, ap, ◌∙◌, arith}
 use Rattle.std.specs.List.{copy_within}
 use Rattle.std.proofs.lemmas.List.{length-replicate, drop_all, set_at, take_at, take-append-le, drop-append-le, replicate-append-replicate}
-use Rattle.std.proofs.Math.Seq.{take-nil}
 use borrow.Author.Tests.{lt-ltb, le-ltb}
 use Rattle.rules.specs.declared.Slot.{Slot}
 use Rattle.rules.specs.declared.LookUp.TheVariants.{Absent}
@@ -10,7 +9,7 @@ use Rattle.rules.specs.Lists.{without, first}
 use Rattle.rules.specs.Memo.{slot_inserted, look_up}
 use Rattle.rules.specs.laws.All.{All, none, more}
 use Rattle.rules.specs.laws.Memo.{inserted-length, look_up-says}
-use Rattle.rules.specs.laws.Places.{without-length, without_front}
+use Rattle.rules.specs.laws.Places.{without-length, without_front, gap_closed}
 use Rattle.rules.specs.laws.Words.{no_slot, all_slots}
 use Rattle.rules.specs.Store.{memo_words}
 use Rattle.memo.specs.Slots.{place_for, room, slots_in, MemoWords, with_slot}
@@ -54,27 +53,13 @@ pushed_in new k i ms p e h =
     ∙ rw (take-append-le i ms (replicate j no_slot) inside, drop-append-le i ms (replicate j no_slot) inside, inserted-length, stands, append_assoc))
 
 -- ---- down by one to place i, where an unused one comes last
-without_is : {A : Type 0} (xs : List A) (i : ℕ) → without xs i ≡ take i xs ++ drop (suc i) xs
-unfolding without
-without_is [] i = sym (ap (λ r. r ++ drop (suc i) []) (take-nil i))
-without_is (x ∷ xs) zero = refl
-without_is (x ∷ xs) (suc i) = ap (λ r. x ∷ r) (without_is xs i)
-
-pulled : (xs : List Slot) (n i : ℕ) (d : Slot) → length xs ≡ n → i < n → set (copy_within xs (i + 1) n i) (n - 1) d ≡ without xs i ++ d ∷ []
-pulled xs n i d long h =
-    let others : take (n - (i + 1)) (drop (i + 1) xs) ≡ drop (i + 1) xs = take_all _ _ (simp length-drop (omega arith)) in
-    let end : i + (n - (i + 1)) ≡ n - 1 = omega arith in
-    let last : drop (n - 1) xs ≡ get_or xs (n - 1) d ∷ [] = drop-cons xs (n - 1) d (omega arith) ∙ ap (λ r. get_or xs (n - 1) d ∷ r) (drop_all (suc (n - 1)) xs (omega arith)) in
-    let as_without : take i xs ++ drop (i + 1) xs ≡ without xs i = rw add-one (sym (without_is xs i)) in
-    rw (others, end, last, as_without) (set_at (without xs i) (get_or xs (n - 1) d) [] d (n - 1) (omega (arith, without-length xs i (omega arith))))
-
 pulled_out : (k i : ℕ) (ms : List Slot) → i < length ms → length ms ≤ k
     → set (copy_within (all_slots k ms) (i + 1) k i) (k - 1) no_slot ≡ all_slots k (without ms i)
 unfolding all_slots
 pulled_out k i ms h f =
     let unused : List Slot = replicate (k - length ms) no_slot in
     let n : k - length (without ms i) ≡ k - length ms + 1 = omega (arith, without-length ms i h) in
-    pulled (ms ++ unused) k i no_slot (simp (length-append, length-replicate) (omega arith)) (omega arith)
+    gap_closed (ms ++ unused) k (k - 1) i no_slot (simp (length-append, length-replicate) (omega arith)) (omega arith) (omega arith)
     ∙ rw (without_front ms unused i h, n, ← replicate-append-replicate, append_assoc)
 
 -- ---- in the memo's words

@@ -1,5 +1,5 @@
 -- A memo's words are words that the functions take; what these promise is then said of the memo.
-use Rattle.std.specs.Prelude.{ℕ, ◌*◌, ◌-◌, ◌<◌, ◌≡◌, Bool, leb, length, get_or}
+use Rattle.std.specs.Prelude.{ℕ, ◌*◌, ◌-◌, ◌<◌, ◌≡◌, Bool, true, leb, length, get_or}
 use Rattle.std.proofs.Common.{arith, sym, ◌∙◌, ap}
 use mathlib.Core.List.{List, [], append-nil, flat_map}
 use Rattle.rules.specs.declared.Train.{Train}
@@ -10,11 +10,16 @@ use Rattle.rules.specs.declared.LookUp.{LookUp}
 use Rattle.rules.specs.declared.LookUp.TheVariants.{Absent}
 use Rattle.rules.specs.Store.{limit, memo_words, slot_words, slot_of}
 use Rattle.rules.specs.Memo.{look_up, is_latest, noted, lowered, inspected}
-use Rattle.rules.specs.Views.{MemoInRange}
+use Rattle.rules.specs.Sound.{memo_in_range}
+use Rattle.rules.specs.Views.{MemoInRange, memo_in_range_test}
 use Rattle.rules.specs.laws.All.{All, always}
 use Rattle.rules.specs.laws.Memo.{slot-among}
 use Rattle.rules.specs.laws.Words.{flat_length, memo_words-length, memo_read, all_slots, no_slot, padded_slots, parts-read, slot_words-length, slot_read}
 use Rattle.memo.specs.Slots.{room, table, slots_in, MemoWords, Inspected}
+
+-- what a memo's words are, by the test of the rules
+pub range_kept : (m : List ℕ) → MemoWords m → memo_in_range (room m) (slots_in m) ≡ true
+range_kept m w = memo_in_range_test (room m) (slots_in m) w.in_range
 
 -- slots written as words
 pub slots_length : (xs : List Slot) → length (flat_map slot_words xs) ≡ 3 * length xs

@@ -1,15 +1,11 @@
 -- What is done to a page's places, from what the code's steps came to.
-use Rattle.std.proofs.Common.{ℕ, ◌≡◌, ◌+◌, ◌-◌, ◌<◌, min, max, zero, suc, List, [], ◌∷◌, ◌++◌, take, drop, length, get_or, set, take_all, drop-cons, length-drop, add-one, refl, sym, ap, ◌∙◌, arith}
-use Rattle.std.specs.List.{fold, copy_within}
-use Rattle.std.proofs.lemmas.List.{drop_all, set_at}
-use Rattle.std.proofs.Math.Seq.{take-nil}
+use Rattle.std.proofs.Common.{◌≡◌, min, max, List, [], ◌∷◌, length, refl, sym, ap, ◌∙◌, arith}
+use Rattle.std.specs.List.{fold}
 use Rattle.rules.specs.declared.Box.{Box}
 use Rattle.rules.specs.declared.Entry.{Entry}
-use Rattle.rules.specs.Lists.{without}
 use Rattle.rules.specs.Boxes.{cover, cover_of, no_box}
 use Rattle.rules.specs.Tree.{its_box}
 use Rattle.rules.specs.laws.Lists.{length-zero}
-use Rattle.rules.specs.laws.Places.{without-length}
 use Rattle.page.specs.declared.Page.{Page}
 use Rattle.page.specs.Struct.{contents}
 
@@ -42,18 +38,3 @@ module _ (g : Page) (used : List Entry) (so : used ≡ (contents g).places) wher
 
   pub some_covered : (e : Entry) (es : List Entry) (b : Box) → used ≡ e ∷ es → b ≡ fold with_box e.bounds es → b ≡ cover_of its_box (contents g).places
   some_covered e es b there f = f ∙ fold_covers e es ∙ ap (cover_of its_box) (sym there ∙ so)
-
--- ---- the places behind a removed one move down
-without_is : {A : Type 0} (xs : List A) (i : ℕ) → without xs i ≡ take i xs ++ drop (suc i) xs
-unfolding without
-without_is [] i = sym (ap (λ r. r ++ drop (suc i) []) (take-nil i))
-without_is (x ∷ xs) zero = refl
-without_is (x ∷ xs) (suc i) = ap (λ r. x ∷ r) (without_is xs i)
-
-pub moved_down : (xs : List Entry) (i : ℕ) (d : Entry) → length xs ≡ 8 → i < 8 → set (copy_within xs (i + 1) 8 i) 7 d ≡ without xs i ++ d ∷ []
-moved_down xs i d long h =
-    let others : take (8 - (i + 1)) (drop (i + 1) xs) ≡ drop (i + 1) xs = take_all _ _ (simp length-drop (omega arith)) in
-    let seven : i + (8 - (i + 1)) ≡ 7 = omega arith in
-    let last : drop 7 xs ≡ get_or xs 7 d ∷ [] = drop-cons xs 7 d (omega arith) ∙ ap (λ r. get_or xs 7 d ∷ r) (drop_all 8 xs (omega arith)) in
-    let as_without : take i xs ++ drop (i + 1) xs ≡ without xs i = rw add-one (sym (without_is xs i)) in
-    rw (others, seven, last, as_without) (set_at (without xs i) (get_or xs 7 d) [] d 7 (omega (arith, without-length xs i (omega arith))))

@@ -27,13 +27,6 @@ pub struct Page {
     pub places: [Entry; 8],
 }
 
-// An unused place: zero throughout.
-pub fn no_place() -> Entry
-    ensures { result ≡ rules.no_place }
-{
-    Entry::default()
-}
-
 // A free page: zero throughout.
 #[tactic(auto, unfolding(crate::specs::Struct::laid_page, crate::specs::Struct::eight))]
 pub fn empty_page() -> Page
@@ -126,7 +119,7 @@ pub fn add_place(mut g: Page, e: Entry) -> Page
 }
 
 // Without the used place i: the later ones move down by one, and the last is zero.
-#[tactic(auto, using(crate::proofs::Places::moved_down, crate::specs::Laws::length_mapped), unfolding(crate::specs::Struct::removed))]
+#[tactic(auto, using(rules::specs::laws::Places::gap_closed, crate::specs::Laws::length_mapped), unfolding(crate::specs::Struct::removed))]
 pub fn remove_place(mut g: Page, i: usize) -> Page
     requires { (i < g.count) × (g.count ≤ 8) }
     ensures { result ≡ spec.removed g i }

@@ -24,13 +24,39 @@ use Rattle.rules.specs.laws.Memo.{room_for, noted-in_range}
 use Rattle.rules.proofs.Memo.{lowered-in_range, inspected-in_range}
 use Rattle.rules.specs.laws.Parts.{with_memo}
 use Rattle.rules.specs.laws.Placed.{memo_part, memo_back}
-use Rattle.memo.specs.Slots.{room, slots_in, MemoWords, Inspected}
+use Rattle.memo.specs.Slots.{room, slots_in, HoldsMemo, MemoWords, Inspected}
 use Rattle.memo.specs.Laws.{memo_room, memo_given, given_room, given_counts, so_looked_up, so_full, so_noted, so_lowered, so_inspected, so_freed}
 use Rattle.parts.specs.InOrder.{Lent, Became}
 use Rattle.parts.specs.MemoAt.{MemoAt}
 use Rattle.parts.specs.Promises.{no_slot_left, Freed}
-use Rattle.parts.specs.Laws.{lent_placed, became, became_then, order_memo}
+use Rattle.parts.specs.Laws.{order_fits, lent_placed, became, became_then, order_memo}
 
+-- ---- what is read
+pub memo_held : (v : List ℕ) → Lent v → HoldsMemo v
+memo_held v l =
+    record {
+      written = l.written;
+      fits = order_fits l.order;
+      pages_most = l.order.sizes.pages_most;
+      slots_most = l.order.sizes.slots_most;
+      memo = l.order.memo;
+    }
+
+module _ (v : List ℕ) (l : Lent v) (m : List ℕ) (part : m ≡ memo_words (store_of v).slots (store_of v).memo) where
+  pub some_room : 1 ≤ room m
+  some_room = omega (arith, memo_room _ _ l.order.memo m part, l.order.sizes.some_slot)
+
+  module _ (t : Train) (found : LookUp) (so : found ≡ look_up t (slots_in m)) where
+    looked : found ≡ look_up t (store_of v).memo
+    looked = so_looked_up _ _ l.order.memo m part t found so
+
+    pub absent_full : found ≡ Absent → (b : Bool) → b ≡ leb (room m) (length (slots_in m)) → b ≡ no_slot_left (store_of v) t
+    absent_full a b e = rw (sym looked ∙ a) (so_full _ _ l.order.memo m part b e)
+
+    pub found_left : (place : ℕ) (latest : Stamp) (old : ℕ) → found ≡ Found place latest old → false ≡ no_slot_left (store_of v) t
+    found_left place latest old f = rw (sym looked ∙ f)
+
+-- ---- what is written
 module _ (v : List ℕ) (from to : ℕ) (l : Lent v) (at : MemoAt v from to) where
   abbrev s : Store
   s = store_of v
@@ -45,21 +71,6 @@ module _ (v : List ℕ) (from to : ℕ) (l : Lent v) (at : MemoAt v from to) whe
   pub memo_lent : MemoWords m
   memo_lent = memo_given s.slots s.memo l.order.memo m part
 
-  pub some_room : 1 ≤ room m
-  some_room = omega (arith, memo_room s.slots s.memo l.order.memo m part, l.order.sizes.some_slot)
-
-  -- ---- what is read
-  module _ (t : Train) (found : LookUp) (so : found ≡ look_up t (slots_in m)) where
-    looked : found ≡ look_up t s.memo
-    looked = so_looked_up s.slots s.memo l.order.memo m part t found so
-
-    pub absent_full : found ≡ Absent → (b : Bool) → b ≡ leb (room m) (length (slots_in m)) → b ≡ no_slot_left s t
-    absent_full a b e = rw (sym looked ∙ a) (so_full s.slots s.memo l.order.memo m part b e)
-
-    pub found_left : (place : ℕ) (latest : Stamp) (old : ℕ) → found ≡ Found place latest old → false ≡ no_slot_left s t
-    found_left place latest old f = rw (sym looked ∙ f)
-
-  -- ---- what is written
   pub room_to_note : (t : Train) → no_slot_left s t ≡ false → look_up t (slots_in m) ≡ Absent → length (slots_in m) < room m
   room_to_note t f = given_room s.slots s.memo l.order.memo m part t (room_for t s.slots s.memo f)
 

@@ -22,6 +22,7 @@ ghost use Rattle.parts.specs.Promises.{Freed, touch, Told, ToldAll};
 ghost use Rattle.parts.specs.Promises as promises;
 
 use board::Board;
+use memo::view::Memo;
 use page::Page;
 use rules::{LookUp, Row, Stamp, Train, Window};
 use std::ops::Range;
@@ -39,16 +40,13 @@ fn memo_range(store: &[u32]) -> Range<usize>
 }
 
 // Whether a new stamp of the train could not be noted: it has no slot, and every slot is used.
-#[tactic(auto, using(crate::proofs::Memo::absent_full, crate::proofs::Memo::found_left))]
+#[tactic(auto, using(crate::proofs::Memo::memo_held, crate::proofs::Memo::some_room, crate::proofs::Memo::absent_full, crate::proofs::Memo::found_left))]
 pub fn no_slot_left(store: &[u32], t: Train) -> bool
     requires { Lent store.now }
     ensures { result ≡ promises.no_slot_left (store_of store.now) t }
 {
-    let memo = &store[memo_range(store)];
-    if let LookUp::Absent = memo::look_up(memo, t) {
-        return memo::is_full(memo);
-    }
-    false
+    let memo = Memo::of(store);
+    memo.look_up(t) == LookUp::Absent && memo.is_full()
 }
 
 // Notes that this stamp of the train is the latest.

@@ -12,8 +12,8 @@ use Rattle.rules.specs.laws.Placed.{Placed, header_long, pages_count, pages_room
 use Rattle.page.specs.declared.Page.{Page}
 use Rattle.page.specs.Struct.{eight, laid_page, struct_at}
 use Rattle.page.specs.Laws.{struct_there}
-use Rattle.memo.specs.Slots.{slots_in, HoldsMemo, MemoWords}
-use Rattle.memo.specs.Laws.{memo_given, so_latest}
+use Rattle.memo.specs.Slots.{slots_in, HoldsMemo}
+use Rattle.memo.specs.Laws.{so_latest}
 use Rattle.query.specs.Keys.{hit, Searchable, searchable_placed}
 use Rattle.query.specs.Descent.{page_holds, page_inside}
 
@@ -63,9 +63,6 @@ module _ (v : List ℕ) (h : Searchable v) where
       }
 
   module _ (m : List ℕ) (part : m ≡ memo_words (store_of v).slots (store_of v).memo) where
-    pub memo_read : MemoWords m
-    memo_read = memo_given _ _ h.ranges.memo m part
-
     pub hit_latest : (e : Entry) (w : Window) (b r : Bool) → b ≡ meets e.bounds w → b ≡ true
         → r ≡ is_latest (slots_in m) e → r ≡ hit (store_of v).memo w e
     unfolding hit

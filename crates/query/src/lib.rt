@@ -8,6 +8,7 @@ ghost use Rattle.rules.specs.Store.{page_at, row_words, store_of};
 ghost use Rattle.page.specs.Struct.{laid_page};
 ghost use Rattle.query.specs.Keys.{key_of, row_of_key, hit, keys_at, Searchable, Written, Found};
 
+use memo::view::Memo;
 use page::Page;
 use rules::part::Part;
 use rules::{Entry, PageNo, Row, Train, Window};
@@ -46,12 +47,12 @@ fn page_of(store: &[u32], at: PageNo) -> Page
 }
 
 // Whether a query lists the entry; its box is tried first, since the memo takes longer.
-#[tactic(auto, using(crate::proofs::Lent::memo_held, crate::proofs::Lent::memo_read, crate::proofs::Lent::hit_latest, crate::proofs::Lent::no_hit))]
+#[tactic(auto, using(crate::proofs::Lent::memo_held, crate::proofs::Lent::hit_latest, crate::proofs::Lent::no_hit))]
 fn is_hit(store: &[u32], e: Entry, w: Window) -> bool
     requires { Searchable store.now }
     ensures { result ≡ hit (store_of store.now).memo w e }
 {
-    boxes::meets(e.bounds, w) && memo::is_latest(memo::part(store), e)
+    boxes::meets(e.bounds, w) && Memo::of(store).is_latest(e)
 }
 
 // ---- the descent

@@ -14,6 +14,7 @@ ghost use Rattle.tree.specs.Putting.{page_count, IsReady, Laid, Wrote, Grown};
 ghost use Rattle.trim.specs.Trimming.{Readable, IsReadable, page_kept, leads_to, way, at_level, Waits, trimmed_in, child_freed, child_renewed, trimmed_place, so_far, TrimmedTo, LeafBelow, held_by, root_lowered, Cleanable};
 
 use arrayvec::ArrayVec;
+use memo::view::Memo;
 use page::Page;
 use parent::Parent;
 use rules::kind::Kind;
@@ -59,8 +60,8 @@ pub fn latest_in(store: &[u32], at: PageNo) -> Page
     requires { Readable (length (store_of store.now).pages) store.now }
     ensures { result ≡ laid_page (with_places (page_at (store_of store.now).pages at) (keep (rules.is_latest (store_of store.now).memo) (page_at (store_of store.now).pages at).places)) }
 {
-    let memo = memo::part(store);
-    kept_in(store, at, |e| memo::is_latest(memo, e))
+    let memo = Memo::of(store);
+    kept_in(store, at, |e| memo.is_latest(e))
 }
 
 // Page `at` with only those that are obsolete.
@@ -68,8 +69,8 @@ pub fn obsolete_in(store: &[u32], at: PageNo) -> Page
     requires { Readable (length (store_of store.now).pages) store.now }
     ensures { result ≡ laid_page (with_places (page_at (store_of store.now).pages at) (keep (rules.is_obsolete (store_of store.now).memo) (page_at (store_of store.now).pages at).places)) }
 {
-    let memo = memo::part(store);
-    kept_in(store, at, |e| !memo::is_latest(memo, e))
+    let memo = Memo::of(store);
+    kept_in(store, at, |e| !memo.is_latest(e))
 }
 
 // ---- the way to the leaf

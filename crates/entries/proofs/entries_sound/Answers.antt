@@ -7,7 +7,7 @@ pub noted_sound-requires : goal.noted_sound-requires
 noted_sound-requires c =
     let known = so_known _ c.requires _ c.pages-p.ensures _ c.next_stamp-next.ensures in
     elim c.if-marks_fine.branch [
-      | then-marks_fine w ↦ so_passing known c.part.ensures w.held_entries.ensures (leb-true _ _ (sym w.value-is ∙ c.if-held_entries-p.true))
+      | then-marks_fine w ↦ so_passing known c.of.ensures w.held_entries.ensures (leb-true _ _ (sym w.value-is ∙ c.if-held_entries-p.true))
       | else-marks_fine w ↦ never c.if-held_entries-p.true w.value-is w.if-marks_fine.false
     ]
 

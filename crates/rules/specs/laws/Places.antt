@@ -1,10 +1,13 @@
 -- Laws of places in a list: the parts that words are cut into, the first that passes a test, and all but one.
 use Prim.Native.Nat.{ℕ, zero, suc, ◌+◌, ◌*◌, ◌-◌, ◌≤◌, ◌<◌}
 use native.Mathlib.Omega.{arith}
-use Rattle.std.proofs.Common.{mul-zero, mul-suc, not-suc-le-zero, le_of_suc-le-suc, ◌∙◌, drop_of_length-le, drop-cons, drop-drop}
+use Rattle.std.proofs.Common.{mul-zero, mul-suc, not-suc-le-zero, le_of_suc-le-suc, ◌∙◌, drop_of_length-le, drop-cons, drop-drop, length-drop, take_all}
+use Rattle.std.proofs.lemmas.List.{drop_all, set_at}
 use Rattle.std.proofs.Math.Numerals.{add-one}
+use Rattle.std.proofs.Math.Seq.{take-nil}
 use Rattle.std.specs.Prelude.{◌≡◌, Bool, true, false, take, drop, get_or, set}
-use Rattle.std.proofs.Math.Path.{refl, ap}
+use Rattle.std.specs.List.{copy_within}
+use Rattle.std.proofs.Math.Path.{refl, ap, sym}
 use mathlib.Core.List.{List, [], ◌∷◌, ◌++◌, map}
 use Rattle.std.proofs.Math.ListN.{length}
 use Rattle.rules.specs.Lists.{cut, first, without}
@@ -108,3 +111,19 @@ module _ {A : Type 0} where
   unfolding without
   gap_added [] x = refl
   gap_added (y ∷ xs) x = ap (λ r. y ∷ r) (gap_added xs x)
+
+  -- those before the gap and those behind it
+  without_is : (xs : List A) (i : ℕ) → without xs i ≡ take i xs ++ drop (suc i) xs
+  unfolding without
+  without_is [] i = sym (ap (λ r. r ++ drop (suc i) []) (take-nil i))
+  without_is (x ∷ xs) zero = refl
+  without_is (x ∷ xs) (suc i) = ap (λ r. x ∷ r) (without_is xs i)
+
+  -- a copy of those behind the gap closes it, and another element comes last
+  pub gap_closed : (xs : List A) (n j i : ℕ) (d : A) → length xs ≡ n → n ≡ j + 1 → i < n → set (copy_within xs (i + 1) n i) j d ≡ without xs i ++ (d ∷ [])
+  gap_closed xs n j i d long last h =
+      let others : take (n - (i + 1)) (drop (i + 1) xs) ≡ drop (i + 1) xs = take_all _ _ (simp length-drop (omega arith)) in
+      let end : i + (n - (i + 1)) ≡ j = omega arith in
+      let one : drop j xs ≡ get_or xs j d ∷ [] = drop-cons xs j d (omega arith) ∙ ap (λ r. get_or xs j d ∷ r) (drop_all (suc j) xs (omega arith)) in
+      let as_without : take i xs ++ drop (i + 1) xs ≡ without xs i = rw add-one (sym (without_is xs i)) in
+      rw (others, end, one, as_without) (set_at (without xs i) (get_or xs j d) [] d j (omega (arith, without-length xs i (omega arith))))

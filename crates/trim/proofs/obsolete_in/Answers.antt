@@ -1,10 +1,7 @@
 use Rattle.std.proofs.Common.{rules}
 use Rattle.rules.specs.Memo.{is_obsolete}
-use Rattle.memo.specs.Laws.{memo_given, so_latest}
+use Rattle.memo.specs.Laws.{so_latest}
 use Rattle.trim.proofs.obsolete_in.Goals as goal
-
-pub kept_in-requires-clause-callable : goal.kept_in-requires-clause-callable
-kept_in-requires-clause-callable c = search (rules, memo_given)
 
 pub returns : goal.returns
 unfolding is_obsolete
