@@ -8,8 +8,6 @@ use mathlib.Core.List.{List, [], map, flat_map, append-nil}
 use lib.ListN.{length, get_or, drop, length-map, drop_of_length-le}
 use lib.Seq.{drop-cons}
 use borrow.Author.Tests.{lt-leb, ltb-false, not-false}
-use mir.Syntax.{w32}
-use mir.Val.{Fits as Number}
 use Rattle.rules.specs.Lists.{cut}
 use Rattle.rules.specs.Store.{Board, closed, row_limit, row_words, board_at, board_of, boards_start, store_of, store_length}
 use Rattle.rules.specs.Boards.{is_open}
@@ -108,8 +106,8 @@ module _ (w : List ℕ) (ok : Accepted w) (i : ℕ) (inside : i < length (store_
     fifth : length rows / 5 ≡ length board.rows
     fifth = omega (arith, many)
 
-    pub count_fits : Number w32 (length rows / 5)
-    count_fits = record { fits = omega (arith, fifth, few) }
+    pub count_fits : length rows / 5 ≤ 4_294_967_295
+    count_fits = omega (arith, fifth, few)
 
     pub rows_whole : length rows ≡ 5 * (length rows / 5)
     rows_whole = omega (arith, many)

@@ -1,12 +1,14 @@
 -- What the input's length and its first line decide. Assumes nothing.
-use Prim.Native.Nat.{ℕ, ◌+◌, ◌≤◌, ◌<◌}
+use Prim.Native.Nat.{ℕ, ◌+◌, ◌-◌, ◌≤◌, ◌<◌, min}
 use native.Mathlib.Omega.{arith}
 use mathlib.Core.Path.{◌≡◌, refl, sym, ◌∙◌}
 use mathlib.Core.Bool.{Bool, true, false, not, false≢true}
 use mathlib.Core.List.{List, [], ◌∷◌, append-nil}
-use lib.ListN.{length, get_or, take, drop, drop_of_length-le}
+use lib.ListN.{length, get_or, take, drop, length-drop, drop_of_length-le}
 use lib.Seq.{take-nil}
 use Rattle.std.proofs.Math.Nat.{sub-zero}
+use Rattle.std.proofs.Common.{take_all}
+use Rattle.std.proofs.lemmas.List.{drop_min}
 use borrow.Author.Tests.{lt-ltb, le-ltb, not-true, not-false}
 use Rattle.rules.specs.Lists.{all_of}
 use Rattle.text.specs.Reading.{newline, parts, lines, all_decimals, in_form, words_in, words_read}
@@ -76,6 +78,10 @@ same_laid q l = rw q at l
 
 none_laid : {space left : List ℕ} → [] ≡ left → Laid space 0 left space 0
 none_laid {space} q = same_laid q (nothing_laid space 0 (omega arith))
+
+-- the part that is lent behind the first line
+pub rest_behind : (input : List ℕ) (e n : ℕ) → n ≡ min (e + 1) (length input) → take (length input - n) (drop n input) ≡ drop (e + 1) input
+rest_behind input e n q = take_all (length input - n) (drop n input) (simp length-drop (omega arith)) ∙ rw q (drop_min (e + 1) input)
 
 -- ---- what is printed, and the store that is left, by each way out
 module _ (input : List ℕ) where

@@ -1,11 +1,12 @@
 -- What running the steps of an input on an accepted store comes to. Assumes nothing.
-use Prim.Native.Nat.{ℕ, ◌+◌, ◌*◌, ◌/◌, ◌%◌}
+use Prim.Native.Nat.{ℕ, ◌+◌, ◌*◌, ◌/◌, ◌%◌, ◌≤◌}
 use native.Mathlib.Omega.{arith}
 use mathlib.Core.Path.{◌≡◌, refl, sym, ◌∙◌, ap}
 use mathlib.Core.Bool.{true, false}
 use mathlib.Core.List.{List, map}
 use lib.Dec.{eqb}
 use lib.ListN.{length, take}
+use lib.Seq.{length-take-le}
 use borrow.Author.Tests.{eq-eqb}
 use Rattle.rules.specs.Lists.{cut}
 use Rattle.rules.specs.Store.{Store, words, store_of}
@@ -25,15 +26,13 @@ use Rattle.program.proofs.Boards.{numbered}
 use Rattle.text.specs.Reading.{good, has_bad, steps_in}
 use Rattle.text.specs.Printing.{bad_line, step_lines}
 use Rattle.text.specs.Program.{boards_from, steps_printed}
-use Rattle.text.specs.Laid.{Laid, both_laid}
+use Rattle.text.specs.Laid.{Laid, both_laid, laid_length}
+use Rattle.text.specs.Laws.{words_enough}
 use Rattle.text.specs.Promised.{StepsRead, steps_back, good_count, bad_met}
 use Rattle.program.specs.Parts.{Accepted, StepsRun}
 
 -- ---- the call
-module _ (w steps answers : List ℕ) (n : ℕ) (ok : Accepted w) (many : length steps ≡ 6 * n) (twice : length answers ≡ 2 * n) where
-  sixth : length steps / 6 ≡ n
-  sixth = omega arith
-
+module _ (w steps answers : List ℕ) (ok : Accepted w) (many : length steps ≡ 6 * (length steps / 6)) (twice : length answers ≡ 2 * (length steps / 6)) where
   done : run_number w steps answers ≡ 0
   unfolding run_number store_tests first_met
   done =
@@ -43,11 +42,11 @@ module _ (w steps answers : List ℕ) (n : ℕ) (ok : Accepted w) (many : length
       rw (u.0, u.1.0, u.1.1.0, u.1.1.1.0, whole, paired)
 
   abbrev ran : Ran
-  ran = run (store_of w) (map step_of (cut n 6 steps))
+  ran = run (store_of w) (map step_of (cut (length steps / 6) 6 steps))
 
   called : run_call w steps answers ≡ record { number = 0; store = words ran.store; answers = ran.answers }
   unfolding run_call ran_by
-  called = rw (done, sixth)
+  called = rw done
 
   module _ (r : Result (Unit {0}) Reason) (w' answers' : List ℕ) (call : run_call w steps answers ≡ record { number = answer_number r; store = w'; answers = answers' }) where
     same : ◌≡◌ {A = RunCall} (record { number = answer_number r; store = w'; answers = answers' }) (record { number = 0; store = words ran.store; answers = ran.answers })
@@ -60,10 +59,10 @@ module _ (w steps answers : List ℕ) (n : ℕ) (ok : Accepted w) (many : length
         go (Ok x) e = refl
         go (Err f) e = absurd (numbered f e)
 
-    pub steps_ran : StepsRun (cut n 6 steps) w w' answers'
+    pub steps_ran : StepsRun (cut (length steps / 6) 6 steps) w w' answers'
     steps_ran =
         let kept = ap (λ c. c.store) same in
-        let still = run_sound (store_of w) (map step_of (cut n 6 steps)) (accepted_words w ok).1 in
+        let still = run_sound (store_of w) (map step_of (cut (length steps / 6) 6 steps)) (accepted_words w ok).1 in
         record { kept = kept; accepted = rw kept (words_accepted ran.store still); answered = ap (λ c. c.answers) same }
 
 -- ---- the lines of an input: read, run and told
@@ -74,17 +73,22 @@ module _ (ls : List (List ℕ)) (w steps : List ℕ) (read : Result ℕ BadLine)
   abbrev after : Store
   after = (run (store_of w) (map step_of (steps_in ls))).store
 
-  parted : cut n 6 part ≡ steps_in ls
-  parted = rw count (steps_back ls steps read steps' taken)
+  sixth : length part / 6 ≡ n
+  sixth =
+      let room : 6 * n ≤ length steps' = omega (arith, count, taken.counted, taken.read.room, laid_length taken.read, words_enough ls) in
+      omega (arith, length-take-le (6 * n) steps' room)
+
+  parted : cut (length part / 6) 6 part ≡ steps_in ls
+  parted = rw (sixth, count) (steps_back ls steps read steps' taken)
 
   after_sound : sound after ≡ true
   after_sound = run_sound (store_of w) (map step_of (steps_in ls)) (accepted_words w ok).1
 
-  module _ (w' answers : List ℕ) (ran : StepsRun (cut n 6 part) w w' answers) where
+  module _ (w' answers : List ℕ) (ran : StepsRun (cut (length part / 6) 6 part) w w' answers) where
     pub store_after : w' ≡ words after
     store_after = rw parted at ran.kept
 
-    module _ (out : List ℕ) (at : ℕ) (mid : List ℕ) (to : ℕ) (told : Laid out at (step_lines (cut n 6 part) answers) mid to) where
+    module _ (out : List ℕ) (at : ℕ) (mid : List ℕ) (to : ℕ) (told : Laid out at (step_lines (cut (length part / 6) 6 part) answers) mid to) where
       lines-told : Laid out at (step_lines (steps_in ls) (run (store_of w) (map step_of (steps_in ls))).answers) mid to
       lines-told = rw (ran.answered, parted) at told
 

@@ -1,7 +1,7 @@
 // The program on lent bytes: an input performed, and what it prints laid out.
 #![tactic(auto)]
 
-ghost use Rattle.std.specs.Prelude.{◌≡◌, map, ◌+◌, ◌*◌, ◌≤◌, ◌<◌, length, drop};
+ghost use Rattle.std.specs.Prelude.{◌≡◌, map, ◌+◌, ◌*◌, ◌/◌, ◌≤◌, ◌<◌, length};
 ghost use Rattle.rules.specs.Lists.{cut};
 ghost use Rattle.rules.specs.Store.{store_of, words, board_at};
 ghost use Rattle.rules.specs.Steps.{step_of, run};
@@ -49,7 +49,7 @@ fn put_board(store: &[u32], i: u32, out: &mut [u8], at: usize) -> usize
         return at;
     }
     let rows = index::board_rows(store, i);
-    text::put_board(i, rows, (rows.len() / 5) as u32, out, at)
+    text::put_board(i, rows, out, at)
 }
 
 // Each open board.
@@ -64,65 +64,59 @@ fn put_boards(store: &[u32], out: &mut [u8], at: usize) -> usize
     to
 }
 
-// Runs n steps, and lays out a line for each.
+// Runs the steps, and lays out a line for each.
 fn run_steps(
     steps: &[u32],
-    n: usize,
     store: &mut [u32],
     answers: &mut [u32],
     out: &mut [u8],
     at: usize,
 ) -> usize
-    requires { Accepted store.old × (length steps.now ≡ 6 * n) × (length answers.old ≡ 2 * n) × (at + 33 * n ≤ length out.old) }
-    ensures steps_run { StepsRun (cut n 6 steps.now) store.old store.new answers.new }
-    ensures laid { Laid out.old at (step_lines (cut n 6 steps.now) answers.new) out.new result }
-    ensures upper_bound { result ≤ at + 33 * n }
+    requires accepted { Accepted store.old }
+    requires steps_len { (length steps.now ≡ 6 * (length steps.now / 6)) × (length answers.old ≡ 2 * (length steps.now / 6)) }
+    requires out_len { at + 33 * (length steps.now / 6) ≤ length out.old }
+    ensures steps_run { StepsRun (cut (length steps.now / 6) 6 steps.now) store.old store.new answers.new }
+    ensures laid { Laid out.old at (step_lines (cut (length steps.now / 6) 6 steps.now) answers.new) out.new result }
+    ensures upper_bound { result ≤ at + 33 * (length steps.now / 6) }
 {
     index::run(store, steps, answers).unwrap();
-    text::put_answers(steps, answers, n, out, at)
+    text::put_answers(steps, answers, out, at)
 }
 
-// The lines of steps from a place on, run on a store: their answers, then the bad line that ended them or the boards.
-fn run_lines(input: &[u8], from: usize, store: &mut [u32], out: &mut [u8], at: usize) -> usize
-    requires { (length input.now ≤ 65536) × Accepted store.old × (at ≤ 17) × (209446 ≤ length out.old) }
-    ensures laid { Laid out.old at (spec.steps_printed (store_of store.old) (lines (drop from input.now))) out.new result }
-    ensures store_after { store.new ≡ words (run (store_of store.old) (map step_of (steps_in (lines (drop from input.now))))).store }
+// The lines of steps that are left of an input, run on a store: their answers, then the bad line that ended them or the boards.
+fn run_lines(rest: &[u8], store: &mut [u32], out: &mut [u8], at: usize) -> usize
+    requires { (length rest.now ≤ 65536) × Accepted store.old × (at ≤ 17) × (209446 ≤ length out.old) }
+    ensures laid { Laid out.old at (spec.steps_printed (store_of store.old) (lines rest.now)) out.new result }
+    ensures store_after { store.new ≡ words (run (store_of store.old) (map step_of (steps_in (lines rest.now)))).store }
 {
     let mut steps = [0; STEP_WORDS];
     let mut answers = [0; ANSWER_WORDS];
-    let read = text::steps(input, from, &mut steps);
+    let read = text::steps(rest, &mut steps);
     let n = read.unwrap_or_else(|bad| bad.after);
-    let to = run_steps(&steps[..6 * n], n, store, &mut answers[..2 * n], out, at);
+    let to = run_steps(&steps[..6 * n], store, &mut answers[..2 * n], out, at);
     match read {
         Ok(_) => put_boards(store, out, to),
         Err(bad) => text::put_bad_line((bad.after + 2) as u32, out, to),
     }
 }
 
-// A start in a store of the right length for these sizes; then the lines from a place on.
-fn begin(
-    p: u32,
-    k: u32,
-    b: u32,
-    input: &[u8],
-    from: usize,
-    store: &mut [u32],
-    out: &mut [u8],
-) -> usize
-    requires { (length input.now ≤ 65536) × (length store.old ≡ store_room p k b) × (209446 ≤ length out.old) }
-    ensures laid { Laid out.old 0 (spec.start_printed p k b (lines (drop from input.now))) out.new result }
-    ensures store_after { store.new ≡ started_left p k b (lines (drop from input.now)) }
+// A start in a store of the right length for these sizes; then the lines that are left of the input.
+fn begin(p: u32, k: u32, b: u32, rest: &[u8], store: &mut [u32], out: &mut [u8]) -> usize
+    requires { (length rest.now ≤ 65536) × (length store.old ≡ store_room p k b) × (209446 ≤ length out.old) }
+    ensures laid { Laid out.old 0 (spec.start_printed p k b (lines rest.now)) out.new result }
+    ensures store_after { store.new ≡ started_left p k b (lines rest.now) }
 {
     match index::start(p, k, b, store) {
         Ok(()) => {
             let to = text::put_start(0, out, 0);
-            run_lines(input, from, store, out, to)
+            run_lines(rest, store, out, to)
         }
         Err(refusal) => text::put_start(u32::from(refusal), out, 0),
     }
 }
 
 // What performing an input answers: how many bytes it prints, and how many words of the lent space are its store's; 0 where none was started.
+// Two lengths and no Option: where none was started, 0 is the length of its part, an empty one, and one clause says what stands in any part.
 #[derive(Clone, Copy, Debug, PartialEq, Eq)]
 pub struct Performed {
     pub bytes: usize,
@@ -130,21 +124,13 @@ pub struct Performed {
 }
 
 // The same, with the store at the front of a lent space.
-fn in_space(
-    p: u32,
-    k: u32,
-    b: u32,
-    input: &[u8],
-    from: usize,
-    space: &mut [u32],
-    out: &mut [u8],
-) -> Performed
-    requires { (length input.now ≤ 65536) × (15824 ≤ length space.old) × (209446 ≤ length out.old) }
-    ensures output_laid { Laid out.old 0 (spec.start_printed p k b (lines (drop from input.now))) out.new result.bytes }
-    ensures store_laid { Laid space.old 0 (started_left p k b (lines (drop from input.now))) space.new result.words }
+fn in_space(p: u32, k: u32, b: u32, rest: &[u8], space: &mut [u32], out: &mut [u8]) -> Performed
+    requires { (length rest.now ≤ 65536) × (15824 ≤ length space.old) × (209446 ≤ length out.old) }
+    ensures output_laid { Laid out.old 0 (spec.start_printed p k b (lines rest.now)) out.new result.bytes }
+    ensures store_laid { Laid space.old 0 (started_left p k b (lines rest.now)) space.new result.words }
 {
     let words = store_length(p, k, b);
-    let bytes = begin(p, k, b, input, from, &mut space[..words], out);
+    let bytes = begin(p, k, b, rest, &mut space[..words], out);
     Performed { bytes, words }
 }
 
@@ -165,7 +151,8 @@ pub fn perform_in(input: &[u8], space: &mut [u32], out: &mut [u8]) -> Performed
         return Performed { bytes, words: 0 };
     }
     let [p, k, b] = sizes;
-    in_space(p, k, b, input, e + 1, space, out)
+    // No newline may stand behind the first line: then no byte is left.
+    in_space(p, k, b, &input[(e + 1).min(input.len())..], space, out)
 }
 
 // The same, with a space of its own.

@@ -1,7 +1,7 @@
 // The program's text: reading lines of decimals, and laying out what is printed.
 #![tactic(auto)]
 
-ghost use Rattle.std.specs.Prelude.{◌≡◌, ◌+◌, ◌*◌, ◌≤◌, [], ◌∷◌, ◌++◌, length, drop};
+ghost use Rattle.std.specs.Prelude.{◌≡◌, ◌+◌, ◌*◌, ◌/◌, ◌≤◌, [], ◌∷◌, ◌++◌, length};
 ghost use mathlib.Core.List.{flat_map};
 ghost use Rattle.rules.specs.Lists.{cut};
 ghost use Rattle.text.specs.Reading.{number_in, lines};
@@ -59,14 +59,14 @@ pub struct BadLine {
     pub after: usize,
 }
 
-// Reads the lines from a place on, each a step of six words, up to the first bad one, and answers how many they are.
-pub fn steps(text: &[u8], from: usize, out: &mut [u32]) -> Result<usize, BadLine>
+// Reads a text's lines, each a step of six words, up to the first bad one, and answers how many they are.
+pub fn steps(text: &[u8], out: &mut [u32]) -> Result<usize, BadLine>
     requires { length text.now + 12 ≤ 2 * length out.old }
-    ensures steps_read { StepsRead (lines (drop from text.now)) out.old result out.new }
+    ensures steps_read { StepsRead (lines text.now) out.old result out.new }
     ensures count_in_bounds { 12 * good_count result ≤ length text.now + 1 }
 {
     let mut count = 0;
-    for line in text[from.min(text.len())..].split_inclusive(|&b| b == b'\n') {
+    for line in text.split_inclusive(|&b| b == b'\n') {
         let line = line.strip_suffix(b"\n").unwrap_or(line);
         if !numbers(line, &mut out[6 * count..6 * count + 6]) {
             return Err(BadLine { after: count });
@@ -153,25 +153,25 @@ pub fn put_too_long(out: &mut [u8], at: usize) -> usize
     put(b"too long\n", out, at)
 }
 
-// A line for each of n steps, of six words, with its answer, of two: its kind, its number and its count.
-pub fn put_answers(steps: &[u32], answers: &[u32], n: usize, out: &mut [u8], at: usize) -> usize
-    requires steps_len { (length steps.now ≡ 6 * n) × (length answers.now ≡ 2 * n) }
-    requires out_len { at + 33 * n ≤ length out.old }
-    ensures laid { Laid out.old at (spec.step_lines (cut n 6 steps.now) answers.now) out.new result }
-    ensures upper_bound { result ≤ at + 33 * n }
+// A line for each step, of six words, with its answer, of two: its kind, its number and its count.
+pub fn put_answers(steps: &[u32], answers: &[u32], out: &mut [u8], at: usize) -> usize
+    requires steps_len { (length steps.now ≡ 6 * (length steps.now / 6)) × (length answers.now ≡ 2 * (length steps.now / 6)) }
+    requires out_len { at + 33 * (length steps.now / 6) ≤ length out.old }
+    ensures laid { Laid out.old at (spec.step_lines (cut (length steps.now / 6) 6 steps.now) answers.now) out.new result }
+    ensures upper_bound { result ≤ at + 33 * (length steps.now / 6) }
 {
     let mut to = at;
-    for i in 0..n {
+    for i in 0..steps.len() / 6 {
         to = put_line(&[steps[6 * i], answers[2 * i], answers[2 * i + 1]], out, to);
     }
     to
 }
 
 // Rows of five words each, one line a row.
-fn put_rows(rows: &[u32], n: usize, out: &mut [u8], at: usize) -> usize
-    requires { (length rows.now ≡ 5 * n) × (at + 55 * n ≤ length out.old) }
-    ensures laid { Laid out.old at (flat_map spec.line (cut n 5 rows.now)) out.new result }
-    ensures upper_bound { result ≤ at + 55 * n }
+fn put_rows(rows: &[u32], out: &mut [u8], at: usize) -> usize
+    requires { (length rows.now ≡ 5 * (length rows.now / 5)) × (at + 55 * (length rows.now / 5) ≤ length out.old) }
+    ensures laid { Laid out.old at (flat_map spec.line (cut (length rows.now / 5) 5 rows.now)) out.new result }
+    ensures upper_bound { result ≤ at + 55 * (length rows.now / 5) }
 {
     let mut to = at;
     for row in rows.as_chunks::<5>().0 {
@@ -191,12 +191,12 @@ fn put_title(i: u32, n: u32, out: &mut [u8], at: usize) -> usize
     put_labelled(b" rows ", n, out, b)
 }
 
-// Board i and its n rows.
-pub fn put_board(i: u32, rows: &[u32], n: u32, out: &mut [u8], at: usize) -> usize
-    requires { (length rows.now ≡ 5 * n) × (at + 33 + 55 * n ≤ length out.old) }
-    ensures laid { Laid out.old at (spec.board_lines i (cut n 5 rows.now)) out.new result }
-    ensures upper_bound { result ≤ at + 33 + 55 * n }
+// Board i and its rows, whose number is one of 32 bits.
+pub fn put_board(i: u32, rows: &[u32], out: &mut [u8], at: usize) -> usize
+    requires { (length rows.now ≡ 5 * (length rows.now / 5)) × (length rows.now / 5 ≤ 4294967295) × (at + 33 + 55 * (length rows.now / 5) ≤ length out.old) }
+    ensures laid { Laid out.old at (spec.board_lines i (cut (length rows.now / 5) 5 rows.now)) out.new result }
+    ensures upper_bound { result ≤ at + 33 + 55 * (length rows.now / 5) }
 {
-    let to = put_title(i, n, out, at);
-    put_rows(rows, n as usize, out, to)
+    let to = put_title(i, (rows.len() / 5) as u32, out, at);
+    put_rows(rows, out, to)
 }

@@ -5,11 +5,8 @@ use Rattle.program.proofs.put_board.Goals as goal
 pub returns-then-is_err-clause-laid : goal.returns-then-is_err-clause-laid
 returns-then-is_err-clause-laid c = nothing_shown _ c.requires.accepted.0 _ c.requires.accepted.1 _ c.board_test.ensures (sym c.is_err.ensures.value ∙ c.if-is_err.true) _ _ c.requires.at_in_bounds
 
-pub overflow_cast-rows : goal.overflow_cast-rows
-overflow_cast-rows c = count_fits _ c.requires.accepted.0 _ c.requires.accepted.1 _ c.board_test.ensures (sym c.is_err.ensures.value ∙ c.if-is_err.false) _ c.board_rows-rows.ensures
-
 pub put_board-requires : goal.put_board-requires
-put_board-requires c = (rows_whole _ c.requires.accepted.0 _ c.requires.accepted.1 _ c.board_test.ensures (sym c.is_err.ensures.value ∙ c.if-is_err.false) _ c.board_rows-rows.ensures, rows_room _ c.requires.accepted.0 _ c.requires.accepted.1 _ c.board_test.ensures (sym c.is_err.ensures.value ∙ c.if-is_err.false) _ c.board_rows-rows.ensures _ _ c.requires.at_in_bounds)
+put_board-requires c = (rows_whole _ c.requires.accepted.0 _ c.requires.accepted.1 _ c.board_test.ensures (sym c.is_err.ensures.value ∙ c.if-is_err.false) _ c.board_rows-rows.ensures, count_fits _ c.requires.accepted.0 _ c.requires.accepted.1 _ c.board_test.ensures (sym c.is_err.ensures.value ∙ c.if-is_err.false) _ c.board_rows-rows.ensures, rows_room _ c.requires.accepted.0 _ c.requires.accepted.1 _ c.board_test.ensures (sym c.is_err.ensures.value ∙ c.if-is_err.false) _ c.board_rows-rows.ensures _ _ c.requires.at_in_bounds)
 
 pub returns-clause-laid : goal.returns-clause-laid
 returns-clause-laid c = board_shown _ c.requires.accepted.0 _ c.requires.accepted.1 _ c.board_test.ensures (sym c.is_err.ensures.value ∙ c.if-is_err.false) _ c.board_rows-rows.ensures _ _ _ _ c.put_board.ensures.laid

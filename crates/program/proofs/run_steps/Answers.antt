@@ -2,7 +2,7 @@ use Rattle.program.proofs.Running.{run_done, steps_ran}
 use Rattle.program.proofs.run_steps.Goals as goal
 
 pub unwrap-requires : goal.unwrap-requires
-unwrap-requires c = run_done _ _ _ _ c.requires.0 c.requires.1 c.requires.2 _ _ _ c.run.ensures
+unwrap-requires c = run_done _ _ _ c.requires.accepted c.requires.steps_len.0 c.requires.steps_len.1 _ _ _ c.run.ensures
 
 pub returns-clause-steps_run : goal.returns-clause-steps_run
-returns-clause-steps_run c = steps_ran _ _ _ _ c.requires.0 c.requires.1 c.requires.2 _ _ _ c.run.ensures
+returns-clause-steps_run c = steps_ran _ _ _ c.requires.accepted c.requires.steps_len.0 c.requires.steps_len.1 _ _ _ c.run.ensures

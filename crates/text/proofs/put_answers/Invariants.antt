@@ -1,5 +1,5 @@
 -- The steps from i on are left.
-use Rattle.std.proofs.Common.{◌+◌, ◌*◌, ◌≤◌}
+use Rattle.std.proofs.Common.{◌≡◌, ◌+◌, ◌*◌, ◌/◌, ◌≤◌, length}
 use Rattle.rules.specs.Lists.{cut}
 use Rattle.text.specs.Printing.{step_lines}
 use Rattle.text.specs.Laid.{Partly}
@@ -8,6 +8,7 @@ use Rattle.text.proofs.put_answers.Given as goal
 
 abbrev pub invariant-loop-i : goal.invariant-loop-i
 invariant-loop-i l = record {
+  each : l.i-end ≡ length l.steps / 6;
   near : l.to ≤ l.at + 33 * l.i;
-  left : Partly l.initial.out l.at (step_lines (cut l.n 6 l.steps) l.answers) l.out l.to (answers_left l.steps l.answers l.n l.i);
+  left : Partly l.initial.out l.at (step_lines (cut (length l.steps / 6) 6 l.steps) l.answers) l.out l.to (answers_left l.steps l.answers (length l.steps / 6) l.i);
 }
