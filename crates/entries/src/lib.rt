@@ -129,7 +129,6 @@ fn note_entry(memo: &[u32], next: Stamp, mark: Stamp, e: Entry, noted: &mut Note
 }
 
 // The entries of page i, each noted in turn up to one that is not sound; a page that is no leaf holds none.
-#[tactic(auto, using(crate::proofs::Pages::count_fits))]
 fn note_page(
     store: &[u32],
     memo: &[u32],
@@ -146,8 +145,7 @@ fn note_page(
     if g.kind != Kind::Leaf as u32 {
         return true;
     }
-    let used = &g.places[..g.count as usize];
-    for &e in used {
+    for &e in g.used() {
         if !note_entry(memo, next, g.mark, e, noted) {
             return false;
         }
