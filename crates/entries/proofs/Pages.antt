@@ -1,17 +1,17 @@
 -- The pass over the pages of a store: their marks, and the entries in them.
 use Rattle.std.proofs.Common.{◌≡◌, ℕ, ◌+◌, ◌≤◌, ◌<◌, Bool, true, false, ◌&&◌, List, length, get_or, take, drop, refl, sym, ◌∙◌, ap, ap₂, arith, true≢false}
 use Rattle.std.proofs.Math.ListN.{drop_of_length-le, length-replicate, get_or-replicate}
-use Rattle.std.proofs.Math.Seq.{take_at}
 use Rattle.std.proofs.lemmas.List.{drop_more}
 use mathlib.Core.List.{flat_map}
+use Rattle.rules.specs.declared.Entry.{Entry}
 use Rattle.rules.specs.declared.Stamp.{Stamp}
 use Rattle.rules.specs.Lists.{keep, every, count}
 use Rattle.rules.specs.Store.{Page, Store, page_no, free_page, no_place, page_at, pages_of, store_of}
 use Rattle.rules.specs.laws.All.{all_at}
 use Rattle.memo.specs.Slots.{slots_in}
 use Rattle.page.specs.declared.Page.{Page as Struct}
-use Rattle.page.specs.Struct.{struct_at, eight, laid_page, contents}
-use Rattle.page.specs.Laws.{struct_there, contents_at, pages_length}
+use Rattle.page.specs.Struct.{struct_at, laid_page, contents}
+use Rattle.page.specs.Laws.{laid_contents, struct_there, contents_at, pages_length}
 use Rattle.theorems.specs.Leaves.{MarkedEntry, with_mark, marked}
 use Rattle.entries.specs.declared.Noted.{Noted}
 use Rattle.entries.specs.Given.{given_fits}
@@ -40,14 +40,6 @@ module _ {w m : List ℕ} {p : ℕ} {next : Stamp} (P : Passing w m p next) {i :
   fits : length (page w i).places ≤ 8
   fits = all_at (given_fits _ P.known.trusted.given).pages_fit i free_page there
 
-  pub count_fits : g.count ≤ 8
-  unfolding laid_page
-  count_fits = rw its fits
-
-  same : take g.count g.places ≡ (page w i).places
-  unfolding laid_page eight
-  same = rw its (take_at (page w i).places _ _ refl)
-
   pub page_skipped : {noted : Noted} → Before w i noted → (g.kind ≡ 1 → ⊥) → Tried (store_of w) (marked (take (i + 1) (store_of w).pages)) true noted
   unfolding laid_page
   page_skipped B d = all_tried (rw (passed_other (store_of w).pages i there (λ k. d (ap (λ g. g.kind) its ∙ k))) at B)
@@ -59,31 +51,35 @@ module _ {w m : List ℕ} {p : ℕ} {next : Stamp} (P : Passing w m p next) {i :
   unfolding laid_page
   leaf k = sym (ap (λ g. g.kind) its) ∙ k
 
-  module _ (kind : g.kind ≡ 1) {noted : Noted} {j : ℕ} (G : Gathered (store_of w) (passed (store_of w).pages i j) noted) where
-    pub page_done : length (take g.count g.places) ≤ j → Tried (store_of w) (marked (take (i + 1) (store_of w).pages)) true noted
-    page_done k = all_tried (rw (passed_all (store_of w).pages i there (leaf kind) j (rw same at k)) at G)
+  module _ (kind : g.kind ≡ 1) {used : List Entry} (so : used ≡ (contents g).places) where
+    same : used ≡ (page w i).places
+    same = so ∙ ap (λ (c : Page). c.places) (ap contents its ∙ laid_contents (page w i) fits)
 
-    module _ (inside : j < length (take g.count g.places)) where
-      short : j < length (page w i).places
-      short = rw same at inside
+    module _ {noted : Noted} {j : ℕ} (G : Gathered (store_of w) (passed (store_of w).pages i j) noted) where
+      pub page_done : length used ≤ j → Tried (store_of w) (marked (take (i + 1) (store_of w).pages)) true noted
+      page_done k = all_tried (rw (passed_all (store_of w).pages i there (leaf kind) j (rw same at k)) at G)
 
-      pub entry_room : Room noted
-      entry_room = room_here G (omega (arith, P.few, passed_few (store_of w).pages i there (leaf kind) j short))
+      module _ (inside : j < length used) where
+        short : j < length (page w i).places
+        short = rw same at inside
 
-      module _ {fine : Bool} {new : Noted} (o : OneMore next (slots_in m) (with_mark g.mark (get_or (take g.count g.places) j no_place)) noted fine new) where
-        one : OneMore (store_of w).next (store_of w).memo (with_mark (page w i).mark (get_or (page w i).places j no_place)) noted fine new
-        unfolding laid_page
-        one = let its_mark : g.mark ≡ (page w i).mark = ap (λ g. g.mark) its in rw (P.known.next_is, P.memo_is, its_mark, same) at o
+        pub entry_room : Room noted
+        entry_room = room_here G (omega (arith, P.few, passed_few (store_of w).pages i there (leaf kind) j short))
 
-        pub entry_broken : fine ≡ false → Tried (store_of w) (marked (take (i + 1) (store_of w).pages)) false new
-        entry_broken f =
-            record {
-              gathered = λ (q : false ≡ true). absurd (true≢false (sym q));
-              broken = λ q. one_fails (store_of w).pages i there (leaf kind) _ j short (sym one.sound ∙ f);
-            }
+        module _ {fine : Bool} {new : Noted} (o : OneMore next (slots_in m) (with_mark g.mark (get_or used j no_place)) noted fine new) where
+          one : OneMore (store_of w).next (store_of w).memo (with_mark (page w i).mark (get_or (page w i).places j no_place)) noted fine new
+          unfolding laid_page
+          one = let its_mark : g.mark ≡ (page w i).mark = ap (λ g. g.mark) its in rw (P.known.next_is, P.memo_is, its_mark, same) at o
 
-        pub entry_passed : fine ≡ true → Gathered (store_of w) (passed (store_of w).pages i (j + 1)) new
-        entry_passed f = rw (passed_more (store_of w).pages i there j short) (gathered_more G (rw f at one))
+          pub entry_broken : fine ≡ false → Tried (store_of w) (marked (take (i + 1) (store_of w).pages)) false new
+          entry_broken f =
+              record {
+                gathered = λ (q : false ≡ true). absurd (true≢false (sym q));
+                broken = λ q. one_fails (store_of w).pages i there (leaf kind) _ j short (sym one.sound ∙ f);
+              }
+
+          pub entry_passed : fine ≡ true → Gathered (store_of w) (passed (store_of w).pages i (j + 1)) new
+          entry_passed f = rw (passed_more (store_of w).pages i there j short) (gathered_more G (rw f at one))
 
 -- ---- all pages
 pub none_gathered : (w : List ℕ) {noted : Noted} → Fresh noted → Before w 0 noted

@@ -130,7 +130,6 @@ fn note_entry(memo: Memo, next: Stamp, mark: Stamp, e: Entry, noted: &mut Noted)
 }
 
 // The entries of page i, each noted in turn up to one that is not sound; a page that is no leaf holds none.
-#[tactic(auto, using(crate::proofs::Pages::count_fits))]
 fn note_page(store: &[u32], memo: Memo, p: usize, i: usize, next: Stamp, noted: &mut Noted) -> bool
     requires passing { state.Passing store.now memo.words.now p next × (i < p) }
     requires before { state.Before store.now i noted.old }
@@ -140,8 +139,7 @@ fn note_page(store: &[u32], memo: Memo, p: usize, i: usize, next: Stamp, noted: 
     if g.kind != Kind::Leaf as u32 {
         return true;
     }
-    let used = &g.places[..g.count as usize];
-    for &e in used {
+    for &e in g.used() {
         if !note_entry(memo, next, g.mark, e, noted) {
             return false;
         }

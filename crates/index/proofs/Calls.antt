@@ -98,7 +98,7 @@ unfolding query_number
 query_refused v w rows r e h n = rw (handed_on r e h) (query_with v w rows e (refused v e n _))
 
 pub query_listed : (v : List ℕ) (w : Window) (rows : List ℕ) → query_number v w rows ≡ 0 → (keys work : List ℕ) (n : ℕ) (keys' work' : List ℕ) → Found (store_of v) w keys work n keys' work'
-    → (out : List ℕ) → out ≡ flat_map row_words (map (row_of_key (store_of v).pages) (take n keys')) ++ drop (5 * n) rows → Answered (query_call v w rows) (Ok n) out
+    → (out : List ℕ) → out ≡ flat_map row_words (map (row_of_key (store_of v).pages) (take n keys')) ++ drop (5 * length (take n keys')) rows → Answered (query_call v w rows) (Ok n) out
 unfolding query_call queried_by
 query_listed v w rows z keys work n keys' work' f out o = rw (z, answer-written rows out f o, f.many) (record { said = refl; by_case = refl })
 

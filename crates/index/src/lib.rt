@@ -112,7 +112,7 @@ pub fn query(
     if rows.len() < 5 * n {
         return Err(Refusal::RowsTooShort);
     }
-    query::write_rows(store, &keys, n, rows);
+    query::write_rows(store, &keys[..n], rows);
     Ok(n)
 }
 

@@ -3,8 +3,8 @@ use Prim.Native.Nat.{ℕ, suc, ◌+◌, ◌*◌, ◌-◌, ◌≤◌, ◌<◌}
 use native.Mathlib.Omega.{arith}
 use mathlib.Core.Path.{◌≡◌, ◌∙◌, ap}
 use mathlib.Core.List.{List, [], ◌∷◌, ◌++◌, map, flat_map, append-nil}
-use lib.ListN.{length, take, drop, set, replicate, length-map, length-replicate, replicate-append-replicate}
-use lib.Seq.{drop_at, length-take-le}
+use lib.ListN.{length, drop, set, replicate, length-map, length-replicate, replicate-append-replicate}
+use lib.Seq.{drop_at}
 use borrow.Rule.Slice.PartMut.{put_mid}
 use Rattle.rules.specs.declared.Row.{Row}
 use Rattle.rules.specs.declared.Window.{Window}
@@ -41,13 +41,14 @@ opened-words w rs n many few =
     let e : 86 - suc (suc (suc (suc (suc (suc (length (flat_map row_words rs))))))) ≡ 80 - 5 * n = omega arith in
     rw (zeros_left (5 * n) 80 (omega arith), many, e)
 
-module _ (v : List ℕ) (i from to : ℕ) (l : Lent v) (inside : i < length (store_of v).boards) (at : BoardAt v i from) (ends : to ≡ from + 86) (w : Window) (keys : List ℕ) (n : ℕ) where
+module _ (v : List ℕ) (i from to : ℕ) (l : Lent v) (inside : i < length (store_of v).boards) (at : BoardAt v i from) (ends : to ≡ from + 86) (w : Window) (keys : List ℕ) where
   abbrev rs : List Row
-  rs = map (row_of_key (store_of v).pages) (take n keys)
+  rs = map (row_of_key (store_of v).pages) keys
 
-  pub board_opened : n ≤ length keys → n ≤ row_limit → RowsAscend rs → (rows ws : List ℕ)
-      → rows ≡ flat_map row_words rs ++ drop (5 * n) (replicate 80 0) → ws ≡ window_words w ++ (1 ∷ n ∷ rows)
+  pub board_opened : length keys ≤ row_limit → RowsAscend rs → (rows ws : List ℕ)
+      → rows ≡ flat_map row_words rs ++ drop (5 * length keys) (replicate 80 0) → ws ≡ window_words w ++ (1 ∷ length keys ∷ rows)
       → Became (with_boards (store_of v) (set (store_of v).boards i (opened w rs))) (put_mid from (to - from) v ws)
-  board_opened enough few ascend rows ws e f =
-      let many : length rs ≡ n = length-map (take n keys) (row_of_key (store_of v).pages) ∙ length-take-le n keys enough in
+  board_opened few ascend rows ws e f =
+      let n = length keys in
+      let many : length rs ≡ n = length-map keys (row_of_key (store_of v).pages) in
       rw ends (board_became l inside at (opened w rs) (record { few = omega arith; ascend = ascend }) ws (f ∙ ap (λ z. window_words w ++ (1 ∷ n ∷ z)) e ∙ opened-words w rs n many few))

@@ -1,7 +1,7 @@
 // The store's memo and boards, written part by part: each part's words, in the store's middle, are lent on to be read or written.
 #![tactic(auto)]
 
-ghost use Rattle.std.specs.Prelude.{◌≡◌, ◌+◌, false, ◌∷◌, ◌++◌, map, ◌≤◌, ◌<◌, length, set, take};
+ghost use Rattle.std.specs.Prelude.{◌≡◌, ◌+◌, false, ◌∷◌, ◌++◌, map, ◌≤◌, ◌<◌, length, set};
 ghost use Rattle.rules.specs.declared.Train.{Train};
 ghost use Rattle.rules.specs.Lists.{some_one};
 ghost use Rattle.rules.specs.Store.{Board, limit, row_limit, closed, window_words, board_of, board_at, store_of};
@@ -238,7 +238,8 @@ pub fn close_board(store: &mut [u32], i: usize)
     board::clear(&mut store[range]);
 }
 
-// Writes an open board with this window, a count of n and these words of sixteen rows.
+// Writes an open board with this window, a count of n and these words of sixteen rows. The n is no length: the words are all 80, zero
+// behind the n rows, as a board has them.
 #[tactic(auto, using(crate::proofs::Opening::rows_written))]
 fn write_board(b: &mut [u32], w: Window, n: usize, rows: &[u32])
     requires { (length b.old ≡ 86) × (n ≤ row_limit) × (length rows.now ≡ 80) }
@@ -249,15 +250,15 @@ fn write_board(b: &mut [u32], w: Window, n: usize, rows: &[u32])
     b[6..].copy_from_slice(rows);
 }
 
-// Opens board i with this window and the rows that the first n keys name; the rows are read before the board is written.
+// Opens board i with this window and the rows that the keys name; the rows are read before the board is written.
 #[tactic(auto, using(crate::specs::Laws::lent_placed))]
-pub fn open_board(store: &mut [u32], i: usize, w: Window, keys: &[u64], n: usize)
+pub fn open_board(store: &mut [u32], i: usize, w: Window, keys: &[u64])
     requires lent { Lent store.old × Searchable store.old × (i < length (store_of store.old).boards) }
-    requires n_in_bounds { (n ≤ length keys.now) × (n ≤ row_limit) × RowsAscend (map (row_of_key (store_of store.old).pages) (take n keys.now)) }
-    ensures { Became (with_boards (store_of store.old) (set (store_of store.old).boards i (rules.opened w (map (row_of_key (store_of store.old).pages) (take n keys.now))))) store.new }
+    requires keys_len { (length keys.now ≤ row_limit) × RowsAscend (map (row_of_key (store_of store.old).pages) keys.now) }
+    ensures { Became (with_boards (store_of store.old) (set (store_of store.old).boards i (rules.opened w (map (row_of_key (store_of store.old).pages) keys.now)))) store.new }
 {
     let mut rows = [0u32; 80];
-    query::write_rows(store, keys, n, &mut rows);
+    query::write_rows(store, keys, &mut rows);
     let range = board_range(store, i);
-    write_board(&mut store[range], w, n, &rows);
+    write_board(&mut store[range], w, keys.len(), &rows);
 }

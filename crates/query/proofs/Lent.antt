@@ -1,17 +1,16 @@
 -- What is read from the words of a store that can be searched: its pages, its memo, and whether a query lists an entry.
-use Rattle.std.proofs.Common.{◌≡◌, ℕ, ◌+◌, ◌*◌, ◌≤◌, ◌<◌, Bool, true, false, List, length, get_or, take, refl, sym, ◌∙◌, ap, arith}
+use Rattle.std.proofs.Common.{◌≡◌, ℕ, ◌+◌, ◌*◌, ◌≤◌, ◌<◌, Bool, true, false, List, length, get_or, sym, ◌∙◌, ap, arith}
 use Rattle.std.proofs.Math.Bool.{and-true, and-false}
-use Rattle.std.proofs.Math.Seq.{take_at}
 use Rattle.rules.specs.declared.PageNo.{PageNo}
 use Rattle.rules.specs.declared.Window.{Window}
 use Rattle.rules.specs.declared.Entry.{Entry}
 use Rattle.rules.specs.Boxes.{meets}
-use Rattle.rules.specs.Store.{page_at, memo_words, store_of}
+use Rattle.rules.specs.Store.{Page as Contents, page_at, memo_words, store_of}
 use Rattle.rules.specs.Memo.{is_latest}
 use Rattle.rules.specs.laws.Placed.{Placed, header_long, pages_count, pages_room}
 use Rattle.page.specs.declared.Page.{Page}
-use Rattle.page.specs.Struct.{eight, laid_page, struct_at}
-use Rattle.page.specs.Laws.{struct_there}
+use Rattle.page.specs.Struct.{contents, laid_page, struct_at}
+use Rattle.page.specs.Laws.{laid_contents, struct_there}
 use Rattle.memo.specs.Slots.{slots_in, HoldsMemo}
 use Rattle.memo.specs.Laws.{so_latest}
 use Rattle.query.specs.Keys.{hit, Searchable, searchable_placed}
@@ -36,17 +35,12 @@ module _ (v : List ℕ) (h : Searchable v) where
         e ∙ ap (λ n. struct_at v n at) (there ∙ pages_count v placed) ∙ rw h.written at (struct_there (store_of v) placed.fits.pages_fit at)
 
   -- its used places are the page's
-  module _ (at : PageNo) (g : Page) (laid : g ≡ laid_page (page_at (store_of v).pages at)) where
-    pub count_fits : g.count ≤ 8
-    unfolding laid_page
-    count_fits = rw laid (places_fit at)
-
-    pub used_places : take g.count g.places ≡ (page_at (store_of v).pages at).places
-    unfolding laid_page eight
-    used_places = rw laid (take_at (page_at (store_of v).pages at).places _ _ refl)
+  module _ (at : PageNo) (g : Page) (laid : g ≡ laid_page (page_at (store_of v).pages at)) (used : List Entry) (so : used ≡ (contents g).places) where
+    pub used_places : used ≡ (page_at (store_of v).pages at).places
+    used_places = so ∙ ap (λ (c : Contents). c.places) (ap contents laid ∙ laid_contents _ (places_fit at))
 
     -- a page that has one is among the store's, and has at most eight
-    pub place_inside : (i : ℕ) → i < length (take g.count g.places) → (at.0 < 192) × (i < 8)
+    pub place_inside : (i : ℕ) → i < length used → (at.0 < 192) × (i < 8)
     place_inside i k =
         let there : i < length (page_at (store_of v).pages at).places = rw used_places at k in
         (omega (arith, page_inside (store_of v).pages at i there, h.ranges.sizes.pages_most), omega (arith, places_fit at))

@@ -1,10 +1,10 @@
 -- Rows that are kept, and rows in the order of their keys; what stands in a slice where a query's rows are written.
 use Rattle.std.specs.Prelude.{ℕ, ◌*◌, ◌≤◌, ◌≡◌, Bool, true, false, take, drop}
-use Rattle.std.proofs.Common.{arith, le_refl, ◌∙◌}
+use Rattle.std.proofs.Common.{arith, le_refl, sym, ◌∙◌}
 use Rattle.std.proofs.Math.Path.{ap}
 use mathlib.Core.List.Memᴰ
 use mathlib.Core.List.{List, [], ◌∷◌, ◌++◌, map, flat_map}
-use Rattle.std.proofs.Math.ListN.{length}
+use Rattle.std.proofs.Math.ListN.{length, length-map}
 use Rattle.rules.specs.declared.Window.{Window}
 use Rattle.rules.specs.declared.Entry.{Entry}
 use Rattle.rules.specs.declared.Row.{Row}
@@ -52,6 +52,8 @@ rows_ascend f (o_more {x = k} {xs = ks} least o) (more h a) (d_more n d) =
 
 -- the rows of the keys found, written in front of a slice, are the query's answer in it
 pub answer-written : {s : Store} {w : Window} {keys work : List ℕ} {n : ℕ} {keys' work' : List ℕ} (out out' : List ℕ) → Found s w keys work n keys' work'
-    → out' ≡ flat_map row_words (map (row_of_key s.pages) (take n keys')) ++ drop (5 * n) out
+    → out' ≡ flat_map row_words (map (row_of_key s.pages) (take n keys')) ++ drop (5 * length (take n keys')) out
     → out' ≡ flat_map row_words (rows_in s w) ++ drop (5 * length (rows_in s w)) out
-answer-written out out' f e = e ∙ rw (f.rows, f.many)
+answer-written {s} {w} {n = n} {keys' = keys'} out out' f e =
+    let many : length (take n keys') ≡ length (rows_in s w) = sym (length-map (take n keys') (row_of_key s.pages)) ∙ ap length f.rows in
+    e ∙ rw (f.rows, many)

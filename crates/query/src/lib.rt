@@ -1,7 +1,7 @@
 // The rows of a window: a descent from the root writes a key for each, and the keys, sorted, give the rows by ascending train.
 #![tactic(auto)]
 
-ghost use Rattle.std.specs.Prelude.{◌≡◌, ◌+◌, ◌*◌, ◌<◌, ◌≤◌, length, set, take, drop};
+ghost use Rattle.std.specs.Prelude.{◌≡◌, ◌+◌, ◌*◌, ◌<◌, ◌≤◌, length, set, drop};
 ghost use mathlib.Core.List.{[], ◌++◌, map, flat_map};
 ghost use Rattle.rules.specs.Lists.{put_if};
 ghost use Rattle.rules.specs.Store.{page_at, row_words, store_of};
@@ -80,16 +80,14 @@ fn add_hit(
 
 // The same for all leaves under page `at`, which stands at this level, from n on: above the leaves it calls itself for each child whose
 // box meets the window.
-#[tactic(auto, using(crate::proofs::Lent::count_fits))]
 fn collect(store: &[u32], level: u32, at: PageNo, w: Window, keys: &mut [u64], n: usize) -> usize
     requires searchable { Searchable store.now × (1 ≤ level) }
     requires at_bound { n + length (keys_at store.now w level at) ≤ 576 }
     ensures { Written keys.old n (keys_at store.now w level at) result keys.new }
 {
     let g = page_of(store, at);
-    let used = &g.places[..g.count as usize];
     let mut m = n;
-    for (i, &e) in used.iter().enumerate() {
+    for (i, &e) in g.used().iter().enumerate() {
         if level == 1 {
             m = add_hit(store, at, i, e, w, keys, m);
         } else if boxes::meets(e.bounds, w) {
@@ -134,14 +132,14 @@ pub fn row_for(store: &[u32], key: u64) -> Row
     }
 }
 
-// Writes the rows of the first n keys to the front of `out`, each row's part lent on to be written.
+// Writes the rows of the keys to the front of `out`, each row's part lent on to be written.
 #[tactic(auto, using(crate::proofs::Writing::no_rows, crate::proofs::Writing::written_more))]
-pub fn write_rows(store: &[u32], keys: &[u64], n: usize, out: &mut [u32])
+pub fn write_rows(store: &[u32], keys: &[u64], out: &mut [u32])
     requires searchable { Searchable store.now }
-    requires n_in_bounds { (n ≤ length keys.now) × (5 * n ≤ length out.old) }
-    ensures { out.new ≡ flat_map row_words (map (row_of_key (store_of store.now).pages) (take n keys.now)) ++ drop (5 * n) out.old }
+    requires out_len { 5 * length keys.now ≤ length out.old }
+    ensures { out.new ≡ flat_map row_words (map (row_of_key (store_of store.now).pages) keys.now) ++ drop (5 * length keys.now) out.old }
 {
-    for (i, &key) in keys[..n].iter().enumerate() {
+    for (i, &key) in keys.iter().enumerate() {
         row_for(store, key).write(&mut out[5 * i..5 * i + 5]);
     }
 }

@@ -1,5 +1,5 @@
 -- What each way out of a step of each kind says of the whole step.
-use Rattle.std.specs.Prelude.{ℕ, ◌+◌, ◌-◌, ◌≤◌, ◌<◌, ◌≡◌, refl, true, false, List, length, ltb, Result, Ok, Err, IsErr, IsErrAnd}
+use Rattle.std.specs.Prelude.{ℕ, ◌+◌, ◌-◌, ◌≤◌, ◌<◌, ◌≡◌, refl, true, false, List, length, ltb, Result, IsErr, IsErrAnd}
 use Rattle.std.proofs.Common.{arith, sym, ◌∙◌, Fits as Number}
 use Rattle.std.specs.Int.{w64}
 use borrow.Author.Tests.{lt-ltb, le-ltb}

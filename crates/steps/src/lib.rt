@@ -194,7 +194,7 @@ fn open(store: &mut [u32], board: u32, window: Window) -> Result<u32, Refusal>
     if 16 < n {
         return Err(Refusal::TooManyRows);
     }
-    parts::open_board(store, board as usize, window, &keys, n);
+    parts::open_board(store, board as usize, window, &keys[..n]);
     Ok(n as u32)
 }
 

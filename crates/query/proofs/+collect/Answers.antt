@@ -7,13 +7,13 @@ use Rattle.query.proofs.+collect.Goals.{then-level-eq1, else-level-eq1+then-meet
 
 pub add_hit-m-requires-clause-at_bound : goal.add_hit-m-requires-clause-at_bound
 add_hit-m-requires-clause-at_bound t c =
-    let inside = place_inside _ c.requires.searchable.0 _ _ c.page_of-g.ensures _ c.loop-i-test.true in
-    let same = used_places _ c.requires.searchable.0 _ _ c.page_of-g.ensures in
+    let inside = place_inside _ c.requires.searchable.0 _ _ c.page_of-g.ensures _ c.used-e-items.ensures _ c.loop-i-test.true in
+    let same = used_places _ c.requires.searchable.0 _ _ c.page_of-g.ensures _ c.used-e-items.ensures in
     (inside.0, inside.1, hit_room c.args.store.now c.args.w c.requires.searchable.1 c.loop-i.invariant same c.requires.at_bound)
 
 pub collect-m-requires : goal.collect-m-requires
 collect-m-requires t c =
-    let same = used_places _ c.requires.searchable.0 _ _ c.page_of-g.ensures in
+    let same = used_places _ c.requires.searchable.0 _ _ c.page_of-g.ensures _ c.used-e-items.ensures in
     let next = drop_more _ _ _ c.loop-i-test.true in
     let room = under_room c.args.store.now c.args.w c.requires.searchable.1 c.loop-i.invariant same c.requires.at_bound next c.if-level-eq1.false (sym c.meets.ensures ∙ c.if-meets.true) in
     (omega arith, ((c.requires.searchable.0, omega arith), room))
@@ -31,4 +31,4 @@ loop-i-preserved t c =
     ]
 
 pub returns : goal.returns
-returns t c = all_written _ _ c.requires.searchable.1 c.loop-i.invariant (used_places _ c.requires.searchable.0 _ _ c.page_of-g.ensures) c.loop-i-test.false
+returns t c = all_written _ _ c.requires.searchable.1 c.loop-i.invariant (used_places _ c.requires.searchable.0 _ _ c.page_of-g.ensures _ c.used-e-items.ensures) c.loop-i-test.false

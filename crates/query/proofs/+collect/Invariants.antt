@@ -5,4 +5,4 @@ abbrev pub decreases-collect : goal.decreases-collect
 decreases-collect l = l.level
 
 abbrev pub invariant-loop-i : goal.invariant-loop-i
-invariant-loop-i l = Left l.store l.w l.level l.at l.used l.initial.keys l.n l.i l.keys l.m
+invariant-loop-i l = Left l.store l.w l.level l.at l.e-items l.initial.keys l.n l.i l.keys l.m

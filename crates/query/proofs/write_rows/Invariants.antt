@@ -5,4 +5,4 @@ use Rattle.query.proofs.Writing.{rows_words}
 use Rattle.query.proofs.write_rows.Given as goal
 
 abbrev pub invariant-loop-i : goal.invariant-loop-i
-invariant-loop-i l = l.out ≡ rows_words (row_of_key (store_of l.store).pages) (take l.i l.key-items) ++ drop (5 * l.i) l.initial.out
+invariant-loop-i l = l.out ≡ rows_words (row_of_key (store_of l.store).pages) (take l.i l.keys) ++ drop (5 * l.i) l.initial.out

@@ -1,4 +1,4 @@
-use Rattle.std.proofs.Common.{rules}
+use Rattle.std.proofs.Common.{rules, arith, length-take}
 use Rattle.query.specs.Keys.{sound_searchable}
 use Rattle.parts.specs.Laws.{sound_lent, found_ascend}
 use Rattle.steps.proofs.Effects.{open_effect}
@@ -17,8 +17,8 @@ returns-then-n-gt16 c = search (rules, open_overfull, c.in_ok-open_allowed.ensur
 pub open_board-requires-clause-lent : goal.open_board-requires-clause-lent
 open_board-requires-clause-lent c = (search (rules, sound_lent), search (rules, sound_searchable), search (rules, open_inside, c.in_ok-open_allowed.ensures))
 
-pub open_board-requires-clause-n_in_bounds : goal.open_board-requires-clause-n_in_bounds
-open_board-requires-clause-n_in_bounds c = search (rules, found_ascend)
+pub open_board-requires-clause-keys_len : goal.open_board-requires-clause-keys_len
+open_board-requires-clause-keys_len c = (omega (arith, length-take c.find-n.result c.find-n.new.keys, c.if-n-gt16.false), search (rules, found_ascend))
 
 pub returns : goal.returns
 returns c = search (rules, open_effect, open_done, c.in_ok-open_allowed.ensures)
