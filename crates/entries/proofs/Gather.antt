@@ -148,6 +148,3 @@ module _ (ps : List Page) (i : ℕ) (inside : i < length ps) where
   pub passed_more : (j : ℕ) → j < length (get_or ps i free_page).places
       → passed ps i (j + 1) ≡ passed ps i j ++ (with_mark (get_or ps i free_page).mark (get_or (get_or ps i free_page).places j no_place) ∷ [])
   passed_more j h = rw (add-one j, take-suc (get_or ps i free_page).places j no_place h, map-append, append_assoc)
-
-pub passed_none : (ps : List Page) (i : ℕ) → passed ps i 0 ≡ marked (take i ps)
-passed_none ps i = append-nil (marked (take i ps))

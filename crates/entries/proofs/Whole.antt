@@ -10,7 +10,6 @@ use Rattle.rules.specs.laws.Memo.{in_order}
 use Rattle.rules.specs.laws.Words.{words-length}
 use Rattle.memo.specs.Slots.{slots_in, HoldsMemo}
 use Rattle.memo.specs.Laws.{memo_slots}
-use Rattle.page.specs.Laws.{pages_length}
 use Rattle.theorems.specs.Leaves.{marked}
 use Rattle.entries.specs.declared.Noted.{Noted}
 use Rattle.entries.specs.Given.{Trusted, given_fits}
@@ -18,7 +17,7 @@ use Rattle.entries.specs.Passes.{counters, mark_fine, slot_fine, slots_fine, obs
 use Rattle.entries.specs.State.{Gathered, Tried, Known, Passing}
 use Rattle.entries.specs.Counters.{counter_slot, slots_counted}
 use Rattle.entries.specs.Decided.{entries_decided}
-use Rattle.entries.proofs.Pages.{pages_are}
+use Rattle.entries.proofs.Pages.{pages_read, next_read, pages_are}
 
 -- a test that is true is not false
 pub never : {A : Type 0} {a b : Bool} → a ≡ true → a ≡ b → b ≡ false → A
@@ -45,8 +44,7 @@ module _ (w : List ℕ) (T : Trusted w) where
 
   module _ (p : ℕ) (e : p ≡ get_or w 5 0) where
     page_count : p ≡ length (store_of w).pages
-    unfolding store_of
-    page_count = e ∙ sym (pages_length w (get_or w 5 0))
+    page_count = pages_read w p e
 
     pub pages_few : p ≤ 192
     pages_few = omega (arith, page_count, T.given.sizes.pages_most)
@@ -65,10 +63,10 @@ module _ {w : List ℕ} {p : ℕ} {next : Stamp} (K : Known w p next) where
   held_are : {n : ℕ} → n ≡ held_count (pages_of p (drop 16 w)) → n ≡ held_count (store_of w).pages
   held_are e = e ∙ ap held_count (pages_are w p next K)
 
-  pub so_passing : {m : List ℕ} {n : ℕ} → m ≡ memo_words (store_of w).slots (store_of w).memo → n ≡ held_count (pages_of p (drop 16 w)) → n ≤ 3 * p → Passing w m p next
+  pub so_passing : {m : List ℕ} {n : ℕ} → m ≡ memo_words (store_of w).slots (store_of w).memo → n ≡ held_count (pages_of p (drop 16 w)) → n ≤ 3 * p → Passing w m
   so_passing {m} e q h =
       record {
-        known = K;
+        trusted = K.trusted;
         memo_is = memo_slots _ _ K.trusted.given.memo m e;
         few = omega (arith, held_are q, K.pages_most);
       }
@@ -94,9 +92,9 @@ module _ {w : List ℕ} {p : ℕ} {next : Stamp} (K : Known w p next) where
           s ∙ sym (decided ∙ rw (e, le-leb (held_count (store_of w).pages) (3 * length (store_of w).pages) (omega (arith, held_are q, K.pages_many)), and-true) refl)
 
 -- ---- what is gathered, tested
-module _ {w m : List ℕ} {p : ℕ} {next : Stamp} (P : Passing w m p next) where
+module _ {w m : List ℕ} (P : Passing w m) where
   pub memo_fits : length (slots_in m) ≤ counters
-  memo_fits = let T = P.known.trusted.given in rw P.memo_is (omega (arith, T.memo.used_most, T.sizes.slots_most))
+  memo_fits = let T = P.trusted.given in rw P.memo_is (omega (arith, T.memo.used_most, T.sizes.slots_most))
 
   module _ {sound : Bool} {noted : Noted} (t : Tried (store_of w) (marked (store_of w).pages) sound noted) where
     pub entry_broken : sound ≡ false → sound ≡ noted_test (store_of w)
@@ -110,14 +108,14 @@ module _ {w m : List ℕ} {p : ℕ} {next : Stamp} (P : Passing w m p next) wher
       pub counters_enough : length (slots_in m) ≤ length noted.counts
       counters_enough = rw G.counts_long memo_fits
 
-      slots_are : slots_fine next noted.counts (slots_in m) ≡ every (λ m. slot_fine (store_of w).next (obsolete_in (store_of w).memo (marked (store_of w).pages) m) m) (store_of w).memo
+      slots_are : slots_fine (store_of w).next noted.counts (slots_in m) ≡ every (λ m. slot_fine (store_of w).next (obsolete_in (store_of w).memo (marked (store_of w).pages) m) m) (store_of w).memo
       slots_are =
           let fits : length (store_of w).memo ≤ counters = rw P.memo_is at memo_fits in
-          rw (P.memo_is, P.known.next_is)
+          rw P.memo_is
           (slots_counted (store_of w).next _ noted.counts (store_of w).memo (omega (arith, G.counts_long))
-          (λ i h. G.counts_so_far i (omega arith) ∙ counter_slot (in_order _ P.known.trusted.given.memo.ascends) i h _))
+          (λ i h. G.counts_so_far i (omega arith) ∙ counter_slot (in_order _ P.trusted.given.memo.ascends) i h _))
 
-      tested : noted_test (store_of w) ≡ all_of (distinct noted.stamps.items ∷ distinct noted.keys.items ∷ slots_fine next noted.counts (slots_in m) ∷ [])
+      tested : noted_test (store_of w) ≡ all_of (distinct noted.stamps.items ∷ distinct noted.keys.items ∷ slots_fine (store_of w).next noted.counts (slots_in m) ∷ [])
       unfolding noted_test all_of
       tested = rw (G.fine, G.stamps_so_far, G.keys_so_far, slots_are) refl
 
@@ -131,6 +129,6 @@ module _ {w m : List ℕ} {p : ℕ} {next : Stamp} (P : Passing w m p next) wher
           unfolding all_of
           keys_equal g = g ∙ sym (tested ∙ rw (← qa, f, ← qb, g) refl)
 
-          pub by_slots : b ≡ true → {r : Bool} → r ≡ slots_fine next noted.counts (slots_in m) → r ≡ noted_test (store_of w)
+          pub by_slots : b ≡ true → (next : Stamp) → next ≡ stamp (get_or w 1 0) → {r : Bool} → r ≡ slots_fine next noted.counts (slots_in m) → r ≡ noted_test (store_of w)
           unfolding all_of
-          by_slots g qr = qr ∙ sym (tested ∙ rw (← qa, f, ← qb, g, and-true) refl)
+          by_slots g next now qr = qr ∙ ap (λ n. slots_fine n noted.counts (slots_in m)) (next_read w next now) ∙ sym (tested ∙ rw (← qa, f, ← qb, g, and-true) refl)

@@ -19,9 +19,9 @@ pub record Known (w : List ℕ) (p : ℕ) (next : Stamp) : Type 0 where
   pub long : 16 + 52 * p ≤ length w
   pub next_is : next ≡ (store_of w).next
 
--- and lent the memo, of at most so many entries as the buffers take
-pub record Passing (w m : List ℕ) (p : ℕ) (next : Stamp) : Type 0 where
-  pub known : Known w p next
+-- what the passes over the entries know: the memo is lent, and the entries are at most so many as the buffers take
+pub record Passing (w m : List ℕ) : Type 0 where
+  pub trusted : Trusted w
   pub memo_is : slots_in m ≡ (store_of w).memo
   pub few : held_count (store_of w).pages ≤ most
 

@@ -130,15 +130,17 @@ fn note_entry(memo: Memo, next: Stamp, mark: Stamp, e: Entry, noted: &mut Noted)
 }
 
 // The entries of page i, each noted in turn up to one that is not sound; a page that is no leaf holds none.
-fn note_page(store: &[u32], memo: Memo, p: usize, i: usize, next: Stamp, noted: &mut Noted) -> bool
-    requires passing { state.Passing store.now memo.words.now p next × (i < p) }
+#[tactic(auto, using(crate::proofs::Whole::trusted_long, crate::proofs::Whole::pages_inside))]
+fn note_page(store: &[u32], memo: Memo, i: usize, noted: &mut Noted) -> bool
+    requires passing { state.Passing store.now memo.words.now × (i < length (store_of store.now).pages) }
     requires before { state.Before store.now i noted.old }
     ensures { state.Tried (store_of store.now) (marked (take (i + 1) (store_of store.now).pages)) result noted.new }
 {
-    let g = page::page_at(store, p, PageNo(i as u32));
+    let g = page::page_at(store, header::pages(store), PageNo(i as u32));
     if g.kind != Kind::Leaf as u32 {
         return true;
     }
+    let next = header::next_stamp(store);
     for &e in g.used() {
         if !note_entry(memo, next, g.mark, e, noted) {
             return false;
@@ -148,13 +150,14 @@ fn note_page(store: &[u32], memo: Memo, p: usize, i: usize, next: Stamp, noted: 
 }
 
 // The entries of all pages, up to one that is not sound.
-fn note_pages(store: &[u32], memo: Memo, p: usize, next: Stamp, noted: &mut Noted) -> bool
-    requires passing { state.Passing store.now memo.words.now p next }
+#[tactic(auto, using(crate::proofs::Whole::trusted_long, crate::proofs::Pages::pages_read))]
+fn note_pages(store: &[u32], memo: Memo, noted: &mut Noted) -> bool
+    requires passing { state.Passing store.now memo.words.now }
     requires fresh { state.Fresh noted.old }
     ensures { state.Tried (store_of store.now) (marked (store_of store.now).pages) result noted.new }
 {
-    for i in 0..p {
-        if !note_page(store, memo, p, i, next, noted) {
+    for i in 0..header::pages(store) {
+        if !note_page(store, memo, i, noted) {
             return false;
         }
     }
@@ -263,8 +266,9 @@ fn slots_fine(memo: Memo, counts: &[u32], next: Stamp) -> bool
 // ---- all together
 
 // Each entry and each slot is sound, and neither two stamps nor two keys are equal.
-fn noted_sound(store: &[u32], memo: Memo, p: usize, next: Stamp) -> bool
-    requires { state.Passing store.now memo.words.now p next }
+#[tactic(auto, using(crate::proofs::Whole::trusted_long))]
+fn noted_sound(store: &[u32], memo: Memo) -> bool
+    requires { state.Passing store.now memo.words.now }
     ensures { result ≡ spec.noted_test (store_of store.now) }
 {
     let mut noted = Noted {
@@ -272,10 +276,10 @@ fn noted_sound(store: &[u32], memo: Memo, p: usize, next: Stamp) -> bool
         keys: ArrayVec::new(),
         counts: [0; COUNTERS],
     };
-    note_pages(store, memo, p, next, &mut noted)
+    note_pages(store, memo, &mut noted)
         && are_distinct(noted.stamps.as_mut_slice())
         && are_distinct(noted.keys.as_mut_slice())
-        && slots_fine(memo, &noted.counts, next)
+        && slots_fine(memo, &noted.counts, header::next_stamp(store))
 }
 
 // Whether held entries are in range and rules 4 to 7 hold; they are counted before any is written to a buffer.
@@ -288,5 +292,5 @@ pub fn entries_sound(store: &[u32]) -> bool
     let next = header::next_stamp(store);
     marks_fine(store, p, next)
         && page::held_entries(store, p) <= 3 * p
-        && noted_sound(store, Memo::of(store), p, next)
+        && noted_sound(store, Memo::of(store))
 }

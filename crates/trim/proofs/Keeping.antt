@@ -12,7 +12,7 @@ use Rattle.page.specs.declared.Page.{Page}
 use Rattle.page.specs.Struct.{contents, laid_page, struct_at, added}
 use Rattle.page.specs.Laws.{laid_added}
 use Rattle.tree.specs.Putting.{page_count, Laid}
-use Rattle.tree.specs.Laws.{laid_few, laid_most, laid_used, read_laid, read-contents}
+use Rattle.tree.specs.Laws.{laid_few, read_laid, read-contents}
 use Rattle.trim.specs.Trimming.{IsReadable, page_kept}
 
 -- ---- of these places those that pass, in a page of this kind and mark
@@ -44,15 +44,13 @@ module _ (w : List ℕ) (h : IsReadable w) (at : PageNo) (g : Page) (read : g �
   laid : Laid g
   laid = read_laid _ w h.ready at g read
 
-  pub count_most : g.count ≤ 8
-  count_most = laid_most g laid
+  module _ (used : List Entry) (so : used ≡ (contents g).places) where
+    pub used_few : length used ≤ 8
+    used_few = rw so (laid_few g laid)
 
-  pub used_few : length (take g.count g.places) ≤ 8
-  used_few = rw (laid_used g laid) (laid_few g laid)
-
-  pub kept_all : (test : Entry → Bool) (r : Page) (i : ℕ) → r ≡ laid_page (kept_first g.kind g.mark test (take i (take g.count g.places))) → length (take g.count g.places) ≤ i
-      → r ≡ laid_page (page_kept test (store_of w) at)
-  unfolding contents
-  kept_all test r i e k =
-      e ∙ rw (take_all i (take g.count g.places) k, laid_used g laid)
-      (ap (λ (c : Contents). laid_page (with_places c (keep test c.places))) (read-contents _ w h.ready at g read))
+    pub kept_all : (test : Entry → Bool) (r : Page) (i : ℕ) → r ≡ laid_page (kept_first g.kind g.mark test (take i used)) → length used ≤ i
+        → r ≡ laid_page (page_kept test (store_of w) at)
+    unfolding contents
+    kept_all test r i e k =
+        e ∙ rw (take_all i used k, so)
+        (ap (λ (c : Contents). laid_page (with_places c (keep test c.places))) (read-contents _ w h.ready at g read))

@@ -1,12 +1,12 @@
 -- Taking out what is thin: the leaf, a page once its child has been trimmed, and the way down to the leaf. Assumes nothing.
-use Prim.Native.Nat.{ℕ, zero, suc, ◌-◌, ◌≤◌, ◌<◌}
+use Prim.Native.Nat.{ℕ, zero, suc, ◌+◌, ◌-◌, ◌≤◌, ◌<◌}
 use native.Mathlib.Omega.{arith}
 use mathlib.Core.Path.{◌≡◌, refl, sym, subst, ◌∙◌, ap, ap₂}
 use mathlib.Core.Bool.{Bool}
 use mathlib.Core.List.{List, [], ◌∷◌, ◌++◌, map, map-append, map-map}
 use Rattle.std.specs.Prelude.{Option, Some, IsSome}
 use lib.Dec.{ltb}
-use lib.ListN.{length, get_or, set, take, length-set, length-map, length-append}
+use lib.ListN.{length, get_or, set, length-set, length-map, length-append}
 use borrow.Author.Tests.{ltb-true, ltb-false}
 use Rattle.rules.specs.declared.Stamp.{Stamp}
 use Rattle.rules.specs.declared.PageNo.{PageNo}
@@ -24,7 +24,7 @@ use Rattle.page.specs.declared.Page.{Page}
 use Rattle.page.specs.Struct.{contents, laid_page, struct_at, with_struct, with_place, removed}
 use Rattle.page.specs.Laws.{laid_set, laid_removed}
 use Rattle.tree.specs.Putting.{ProperPlaces, Ready, page_count, IsReady, Laid, Wrote}
-use Rattle.tree.specs.Laws.{laid_few, laid_count, laid_most, laid_holds, laid_used, laid_at, ready_own, page_few, page_proper, child_proper, read_laid, read-contents, page-put, wrote_then, wrote_pages}
+use Rattle.tree.specs.Laws.{laid_few, laid_count, laid_most, laid_holds, laid_at, ready_own, page_few, page_proper, child_proper, read_laid, read-contents, page-put, wrote_then, wrote_pages}
 use Rattle.trim.specs.declared.Orphan.{Orphan}
 use Rattle.trim.specs.declared.parent.Parent.{Parent}
 use Rattle.trim.proofs.Ways.{place_found, some_found}
@@ -97,26 +97,30 @@ module _ (p : ℕ) (w : List ℕ) (h : Ready p w) (level : ℕ) (f : Parent) (os
   many : left.count ≡ length (page_at (store_of w).pages (child_at f)).places
   many = laid_count left (read_laid p w h c left read) ∙ ap (λ (g : Contents). length g.places) here
 
-  -- its used places, which wait if it is freed
-  abbrev news : List Orphan
-  news = map (at_level level) (take left.count left.places)
-
-  news_length : length news ≡ left.count
-  news_length = length-map (take left.count left.places) (at_level level) ∙ omega (arith, ap (length {A = Entry}) (laid_used left (read_laid p w h c left read)), laid_count left (read_laid p w h c left read))
-
   still : All (λ o. Placeable level (waiting o)) os
   still = all_map waits.placeable λ z k. record { level_most = omega (arith, k.level_most); proper = k.proper }
 
-  pub trimmed_out : (w' : List ℕ) (r : List Orphan) → left.count < 4 → Wrote p w (child_freed (store_of w).pages f) w' → r ≡ os ++ news
-      → TrimmedTo p w level (trimmed_place level f (so_far w os)) w' r
-  trimmed_out w' r m t a =
-      let es = (page_at (store_of w).pages (child_at f)).places in
-      let used : take left.count left.places ≡ es = laid_used left (read_laid p w h c left read) ∙ ap (λ (g : Contents). g.places) here in
-      let held : held_by r ≡ held_by os ++ wait_at level es = rw (a, map-append waiting os news, used, map-map) refl in
-      let proper : All (λ o. Placeable level (waiting o)) news = rw used (all_mapped _ (all_map (page_proper p w h (child_at f)) λ e k. record { level_most = omega arith; proper = k })) in
-      either (λ z. TrimmedTo p w level z w' r) (ltb (length es) 4)
-      (λ y. record { pages = t; orphans = held; waits = record { few = omega (arith, ap (length {A = Orphan}) a, length-append os news, news_length, waits.few); placeable = rw a (all_append still proper) } })
-      (λ y. absurd (omega (arith, many, ltb-false (length es) 4 y)))
+  -- its used places, which wait if it is freed
+  module _ (used : List Entry) (so : used ≡ (contents left).places) where
+    abbrev news : List Orphan
+    news = map (at_level level) used
+
+    news_length : length news ≡ left.count
+    news_length = length-map used (at_level level) ∙ ap (length {A = Entry}) so ∙ sym (laid_count left (read_laid p w h c left read))
+
+    pub news_room : level ≤ 4 → left.count < 4 → length os + length used ≤ 12
+    news_room four m = omega (arith, waits.few, news_length, length-map used (at_level level))
+
+    pub trimmed_out : (w' : List ℕ) (r : List Orphan) → left.count < 4 → Wrote p w (child_freed (store_of w).pages f) w' → r ≡ os ++ news
+        → TrimmedTo p w level (trimmed_place level f (so_far w os)) w' r
+    trimmed_out w' r m t a =
+        let es = (page_at (store_of w).pages (child_at f)).places in
+        let its : used ≡ es = so ∙ ap (λ (g : Contents). g.places) here in
+        let held : held_by r ≡ held_by os ++ wait_at level es = rw (a, map-append waiting os news, its, map-map) refl in
+        let proper : All (λ o. Placeable level (waiting o)) news = rw its (all_mapped _ (all_map (page_proper p w h (child_at f)) λ e k. record { level_most = omega arith; proper = k })) in
+        either (λ z. TrimmedTo p w level z w' r) (ltb (length es) 4)
+        (λ y. record { pages = t; orphans = held; waits = record { few = omega (arith, ap (length {A = Orphan}) a, length-append os news, news_length, waits.few); placeable = rw a (all_append still proper) } })
+        (λ y. absurd (omega (arith, many, ltb-false (length es) 4 y)))
 
   pub trimmed_stay : (w' : List ℕ) → 4 ≤ left.count → Wrote p w (child_renewed (store_of w).pages f) w'
       → TrimmedTo p w level (trimmed_place level f (so_far w os)) w' os

@@ -6,7 +6,7 @@ use mathlib.Core.Path.{◌≡◌, refl, sym, ◌∙◌, ap}
 use mathlib.Core.Bool.{Bool, true, false, cond, ◌||◌, or_assoc}
 use mathlib.Core.List.{List, [], ◌∷◌, ◌++◌, flat_map}
 use lib.Dec.{eqb, ltb}
-use lib.ListN.{length, get_or, take}
+use lib.ListN.{length, get_or}
 use Rattle.std.specs.Prelude.{Option, Some, None, IsSome, nat_eq, nat_lt}
 use Rattle.std.specs.Option.{is_some}
 use Rattle.std.specs.List.{position, position_or_len}
@@ -21,8 +21,8 @@ use Rattle.rules.specs.Store.{Page as Contents, no_place, child_of, page_at, sto
 use Rattle.rules.specs.Cleaning.{reached_under, among}
 use Rattle.page.specs.declared.Page.{Page}
 use Rattle.page.specs.Struct.{contents, struct_at}
-use Rattle.tree.specs.Putting.{Ready, Laid}
-use Rattle.tree.specs.Laws.{laid_used, read-contents}
+use Rattle.tree.specs.Putting.{Ready}
+use Rattle.tree.specs.Laws.{read-contents}
 use Rattle.trim.specs.Trimming.{leads_to, way}
 
 -- ---- one of several pages
@@ -108,11 +108,11 @@ module _ {A : Type 0} (f : A → Bool) (xs : List A) (i : ℕ) (d : A) (before :
   found_nowhere : i ≡ length xs → None ≡ position f xs
   found_nowhere h = rw (position_or_len_is f xs i d (omega arith) before (λ k. absurd (omega arith)), le-ltb i (length xs) (omega arith)) refl
 
-module _ (w : List ℕ) (level : ℕ) (q : PageNo) (g : Page) (l : Laid g) (i : ℕ)
-    (before : (k : ℕ) → k < i → leads_to (store_of w).pages level q (child_of (get_or (take g.count g.places) k no_place)) ≡ false) where
-  pub way_here : i < length (take g.count g.places) → leads_to (store_of w).pages level q (child_of (get_or (take g.count g.places) i no_place)) ≡ true
+module _ (w : List ℕ) (level : ℕ) (q : PageNo) (g : Page) (used : List Entry) (so : used ≡ (contents g).places) (i : ℕ)
+    (before : (k : ℕ) → k < i → leads_to (store_of w).pages level q (child_of (get_or used k no_place)) ≡ false) where
+  pub way_here : i < length used → leads_to (store_of w).pages level q (child_of (get_or used i no_place)) ≡ true
       → Some i ≡ way (store_of w).pages level q (contents g).places
-  way_here h t = rw (← laid_used g l) (found_here (λ e. leads_to (store_of w).pages level q (child_of e)) (take g.count g.places) i no_place before h t)
+  way_here h t = rw (← so) (found_here (λ e. leads_to (store_of w).pages level q (child_of e)) used i no_place before h t)
 
-  pub way_nowhere : i ≡ length (take g.count g.places) → None ≡ way (store_of w).pages level q (contents g).places
-  way_nowhere h = rw (← laid_used g l) (found_nowhere (λ e. leads_to (store_of w).pages level q (child_of e)) (take g.count g.places) i no_place before h)
+  pub way_nowhere : i ≡ length used → None ≡ way (store_of w).pages level q (contents g).places
+  way_nowhere h = rw (← so) (found_nowhere (λ e. leads_to (store_of w).pages level q (child_of e)) used i no_place before h)

@@ -10,7 +10,7 @@ ghost use Rattle.rules.specs.Tree.{with_places, tree_of};
 ghost use Rattle.rules.specs.Cleaning.{put_back, given_way, cleaned};
 ghost use Rattle.page.specs.Struct.{contents, laid_page};
 ghost use Rattle.memo.specs.Slots.{HoldsMemo};
-ghost use Rattle.tree.specs.Putting.{page_count, IsReady, Laid, Wrote, Grown};
+ghost use Rattle.tree.specs.Putting.{page_count, IsReady, Wrote, Grown};
 ghost use Rattle.trim.specs.Trimming.{Readable, IsReadable, page_kept, leads_to, way, at_level, Waits, trimmed_in, child_freed, child_renewed, trimmed_place, so_far, TrimmedTo, LeafBelow, held_by, root_lowered, Cleanable};
 
 use arrayvec::ArrayVec;
@@ -35,7 +35,6 @@ type Orphans = ArrayVec<Orphan, 12>;
 // ---- what a leaf keeps
 
 // Page `at` with only those of its places that pass the test, in their order.
-#[tactic(auto, using(crate::proofs::Keeping::count_most))]
 fn kept_in<F: Fn(Entry) -> bool>(store: &[u32], at: PageNo, passes: F) -> Page
     requires readable { IsReadable store.now }
     requires callable { F.IsAlwaysCallable passes }
@@ -47,7 +46,7 @@ fn kept_in<F: Fn(Entry) -> bool>(store: &[u32], at: PageNo, passes: F) -> Page
         mark: g.mark,
         ..page::empty_page()
     };
-    for &e in &g.places[..g.count as usize] {
+    for &e in g.used() {
         if passes(e) {
             r = page::add_place(r, e);
         }
@@ -86,12 +85,11 @@ fn reaches(store: &[u32], level: u32, at: PageNo, q: PageNo) -> bool
 
 // The first place of g whose child, which stands at this level, leads to q.
 #[cycle(reaches_way_to)]
-#[tactic(auto, using(tree::specs::Laws::laid_most))]
 fn way_to(store: &[u32], level: u32, g: Page, q: PageNo) -> Option<usize>
-    requires { IsReady store.now × Laid g × (1 ≤ level) }
+    requires { IsReady store.now × (1 ≤ level) }
     ensures { result ≡ way (store_of store.now).pages level q (contents g).places }
 {
-    for (i, e) in g.places[..g.count as usize].iter().enumerate() {
+    for (i, e) in g.used().iter().enumerate() {
         if reaches(store, level, PageNo(e.key), q) {
             return Some(i);
         }
@@ -145,7 +143,6 @@ fn renew_child(store: &mut [u32], parent: Parent)
 }
 
 // The parent, once its child at this level has been trimmed: a thin child is freed and its places wait.
-#[tactic(auto, using(tree::specs::Laws::read_laid))]
 fn trim_place(store: &mut [u32], level: u32, parent: Parent, waiting: &mut Orphans)
     requires { IsReady store.old × (1 ≤ level) × (level ≤ 4) × Waits (level - 1) waiting.old.items }
     ensures { TrimmedTo (page_count store.old) store.old level (trimmed_place level parent (so_far store.old waiting.old.items)) store.new waiting.new.items }
@@ -154,7 +151,7 @@ fn trim_place(store: &mut [u32], level: u32, parent: Parent, waiting: &mut Orpha
     let is_thin = left.count < 4;
     if is_thin {
         free_child(store, parent);
-        add_orphans(waiting, level, &left.places[..left.count as usize]);
+        add_orphans(waiting, level, left.used());
     } else {
         renew_child(store, parent);
     }

@@ -10,7 +10,7 @@ returns-then-are_distinct-2 c =
       | then-are_distinct w ↦ elim c.if-note_pages.branch [
         | then-note_pages u ↦ by_slots c.requires c.note_pages.ensures u.if-note_pages.true
             (u.are_distinct.ensures ∙ ap distinct u.as_mut_slice.ensures.value) (sym u.value-is ∙ w.if-are_distinct.true)
-            (rw u.noted-is at (w.are_distinct-then-are_distinct.ensures ∙ ap distinct w.as_mut_slice-then-are_distinct.ensures.value)) (sym w.value-is ∙ c.if-are_distinct-2.true)
+            (rw u.noted-is at (w.are_distinct-then-are_distinct.ensures ∙ ap distinct w.as_mut_slice-then-are_distinct.ensures.value)) (sym w.value-is ∙ c.if-are_distinct-2.true) _ c.next_stamp.ensures
             (rw (w.noted-is, u.noted-is) at c.slots_fine.ensures)
         | else-note_pages u ↦ never w.if-are_distinct.true u.value-is u.if-note_pages.false
       ]

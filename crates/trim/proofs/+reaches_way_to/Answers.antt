@@ -1,10 +1,6 @@
 use Rattle.std.proofs.Common.{rules}
-use Rattle.tree.specs.Laws.{read_laid}
 use Rattle.trim.proofs.Ways.{leads_itself, leads_nowhere, leads_further, way_here, way_nowhere}
 use Rattle.trim.proofs.+reaches_way_to.Goals as goal
-
-pub reaches-way_to-requires : goal.reaches-way_to-requires
-reaches-way_to-requires t c = search (rules, read_laid)
 
 pub reaches-returns-then-eq : goal.reaches-returns-then-eq
 reaches-returns-then-eq t c = search (rules, leads_itself)

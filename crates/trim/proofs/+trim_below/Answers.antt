@@ -6,9 +6,6 @@ use Rattle.trim.proofs.+trim_below.Goals as goal
 pub returns-then-depth-eq0 : goal.returns-then-depth-eq0
 returns-then-depth-eq0 t c = search (rules, at_leaf)
 
-pub way_to-requires : goal.way_to-requires
-way_to-requires t c = search (rules, read_laid)
-
 pub unwrap-place-requires : goal.unwrap-place-requires
 unwrap-place-requires t c = search (rules, way_some)
 

@@ -8,7 +8,7 @@ loop-e-init g c = λ test h. search (rules, kept_start)
 
 pub loop-e-preserved : goal.loop-e-preserved
 loop-e-preserved g c = λ test h.
-    let few = used_few _ c.requires.readable _ _ c.page_of-g.ensures in
+    let few = used_few _ c.requires.readable _ _ c.page_of-g.ensures _ c.used-e-items.ensures in
     let so_far = c.loop-e.invariant test h in
     let tested = h _ _ c.passes.ensures in
     elim c.if-passes.branch [
@@ -17,4 +17,4 @@ loop-e-preserved g c = λ test h.
     ]
 
 pub returns : goal.returns
-returns g c = λ test h. kept_all _ c.requires.readable _ _ c.page_of-g.ensures test _ _ (c.loop-e.invariant test h) c.loop-e-test.false
+returns g c = λ test h. kept_all _ c.requires.readable _ _ c.page_of-g.ensures _ c.used-e-items.ensures test _ _ (c.loop-e.invariant test h) c.loop-e-test.false
