@@ -27,6 +27,8 @@ use page::Page;
 use rules::{LookUp, Row, Stamp, Train, Window};
 use std::ops::Range;
 
+// The store is lent as a slice: nearly all of these write it, and a type over `&mut` would ask for a clause more at each of them.
+
 // ---- the memo
 
 // Where the memo stands among the store's words.

@@ -100,7 +100,8 @@ fn run_lines(rest: &[u8], store: &mut [u32], out: &mut [u8], at: usize) -> usize
     }
 }
 
-// A start in a store of the right length for these sizes; then the lines that are left of the input.
+// A start in a store of the right length for these sizes; then the lines that are left of the input. The sizes stay three numbers, as
+// a start takes them.
 fn begin(p: u32, k: u32, b: u32, rest: &[u8], store: &mut [u32], out: &mut [u8]) -> usize
     requires { (length rest.now ≤ 65536) × (length store.old ≡ store_room p k b) × (209446 ≤ length out.old) }
     ensures laid { Laid out.old 0 (spec.start_printed p k b (lines rest.now)) out.new result }

@@ -61,7 +61,7 @@ fn nine(g: Page, e: Entry) -> [[u32; 6]; 9]
     rows
 }
 
-// The page whose places are these rows, added one by one to an empty page.
+// The page whose places are these rows, added one by one to an empty page; kind and mark, which no other function takes, are its own.
 #[tactic(auto, using(crate::proofs::Rows::part_start, crate::proofs::Rows::part_turn))]
 fn part(rows: &[[u32; 6]], kind: u32, mark: Stamp) -> Page
     requires { length rows.now ≤ 8 }
