@@ -1,6 +1,6 @@
--- What a view of a tidy store keeps, as one fact and as its tests. Assumes nothing.
+-- What a view of a tidy store keeps, as one fact; and its tests, of words that are tidy. Assumes nothing.
 use Rattle.std.proofs.Common.{ℕ, ◌≤◌, arith, ◌≡◌, true, List, length}
-use Rattle.rules.specs.Calls.{laid_out, sizes_read}
+use Rattle.rules.specs.Calls.{sizes_read}
 use Rattle.rules.specs.Views.{sizes_in_range_test, header_in_range_test, page_in_range_test, memo_in_range_test, board_in_range_test}
 use Rattle.rules.specs.laws.All.{every_test}
 use Rattle.rules.specs.laws.Lists.{same_words_self}
@@ -21,9 +21,6 @@ module _ (w : List ℕ) (t : TidyWords w) where
   pub sizes_shown : sizes_read w ≡ true
   unfolding sizes_read
   sizes_shown = sizes_in_range_test _ _ _ t.given.sizes
-
-  pub laid_shown : laid_out w ≡ true
-  laid_shown = t.given.laid
 
   same_shown : same_words (words (store_of w)) w ≡ true
   same_shown = rw t.same (same_words_self w)

@@ -21,7 +21,7 @@ fn visit(flags: &mut [bool], at: PageNo) -> bool
 }
 
 // Rules 1 to 3: the walk from the root visits no page twice, and then every page is looked at once.
-#[tactic(auto, using(crate::proofs::Kept::sizes_shown, crate::proofs::Kept::laid_shown, crate::proofs::Kept::tidy_shown, crate::proofs::Pages::root_to_walk, crate::proofs::Pages::tree_not))]
+#[tactic(auto, using(crate::proofs::Kept::sizes_shown, crate::proofs::Kept::tidy_shown, crate::proofs::Pages::root_to_walk, crate::proofs::Pages::tree_not))]
 pub fn is_tree(store: &[u32]) -> bool
     requires { TidyWords store.now }
     ensures { result ≡ spec.tree_rules (rules.store_of store.now) }

@@ -60,7 +60,7 @@ impl<'a> Tidy<'a> {
     // ---- every page, once the walk is done
 
     // The place's box is the smallest that covers its child's places.
-    #[tactic(auto, using(crate::proofs::Pages::covered_so, crate::proofs::Kept::its_words, crate::proofs::Kept::header_there, std::proofs::lemmas::Bool::Decides::nat_tests), unfolding(rules::specs::Sound::same_box, rules::specs::Store::box_words, rules::specs::Lists::same_words))]
+    #[tactic(auto, using(crate::proofs::Pages::covered_so, crate::proofs::Kept::its_words, std::proofs::lemmas::Bool::Decides::nat_tests), unfolding(rules::specs::Sound::same_box, rules::specs::Store::box_words, rules::specs::Lists::same_words))]
     fn covers_child(&self, e: Entry) -> bool
         ensures { result ≡ spec.covered (rules.store_of self.now.words.now).pages e }
     {
