@@ -70,7 +70,6 @@ module _ (w : List ℕ) (tidy : TidyWords w) (root : PageNo) (l : ℕ) (is-root 
   pub root_to_walk : ToWalk w l root clear
   root_to_walk =
       record {
-        tidy = tidy;
         level = rw level_so tidy.header.levels_least;
         inside = rw root_so tidy.header.root_page;
         flags = refl;

@@ -11,15 +11,16 @@ use Rattle.rules.specs.Cleaning.{reached_under}
 use Rattle.rules.specs.laws.All.{all_at}
 use Rattle.page.specs.declared.Page.{Page}
 use Rattle.page.specs.Struct.{contents, laid_page}
+use Rattle.tidy.specs.Tidy.{TidyWords}
 use Rattle.tidy.specs.Laws.{pages_many}
 use Rattle.walk.specs.Walk.{flagged, ToWalk, Walked, Walking, walks, walks_all}
 use Rattle.walk.specs.Laws.{seen_before, leaf_walks, other_walks, inner_walks, inner_flags, child_passes, child_fails, all_walked, all_flagged}
 use Rattle.walk.proofs.Pages.{places_read}
 
-module _ (w : List ℕ) (l : ℕ) (p : PageNo) (fs : List Bool) (to : ToWalk w l p fs) where
+module _ (w : List ℕ) (l : ℕ) (p : PageNo) (fs : List Bool) (tidy : TidyWords w) (to : ToWalk w l p fs) where
   -- each page has a flag
   pub flag_there : p.0 < length fs
-  flag_there = omega (arith, to.inside, to.flags, pages_many w, to.tidy.given.sizes.pages_most)
+  flag_there = omega (arith, to.inside, to.flags, pages_many w, tidy.given.sizes.pages_most)
 
   module _ (one : List Bool) (set-one : one ≡ set fs p.0 true) where
     long : length one ≡ 192
@@ -67,10 +68,10 @@ module _ (w : List ℕ) (l : ℕ) (p : PageNo) (fs : List Bool) (to : ToWalk w l
 
         page_range : PageInRange (length (store_of w).pages) (page_at (store_of w).pages p)
         unfolding page_at
-        page_range = all_at to.tidy.pages p.0 free_page to.inside
+        page_range = all_at tidy.pages p.0 free_page to.inside
 
         same : places ≡ (page_at (store_of w).pages p).places
-        same = places_read w to.tidy p g read places used
+        same = places_read w tidy p g read places used
 
         inner_so : walks (store_of w).pages l p fs ≡ walks_all (store_of w).pages (l - 1) places one
         inner_so = rw (same, set-one) (inner_walks (store_of w).pages p fs l level_2 unseen (sym kind_read ∙ inner))
@@ -88,7 +89,7 @@ module _ (w : List ℕ) (l : ℕ) (p : PageNo) (fs : List Bool) (to : ToWalk w l
             pub child_to_walk : ToWalk w (l - 1) (child_of (get_or places i no_place)) now
             child_to_walk =
                 let this = all_at (page_range.inner (sym kind_read ∙ inner)) i no_place (rw same at inside) in
-                record { tidy = to.tidy; level = (let h = level_2 in omega arith); inside = rw same this.child; flags = walking.flags }
+                record { level = (let h = level_2 in omega arith); inside = rw same this.child; flags = walking.flags }
 
             module _ (r : Bool) (after : List Bool) (child : Walked (store_of w).pages (l - 1) (child_of (get_or places i no_place)) now r after) where
               pub child_good : r ≡ true → Walking (store_of w).pages (l - 1) places one (length places) (i + 1) after

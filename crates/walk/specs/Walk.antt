@@ -8,7 +8,6 @@ use Rattle.rules.specs.Store.{Page, Store, page_no, child_of, page_at, store_of}
 use Rattle.rules.specs.Tree.{cover_page}
 use Rattle.rules.specs.Cleaning.{reached_under}
 use Rattle.rules.specs.Sound.{is_free, is_inner, levelled, filled, same_box, rule1, rule2, rule3}
-use Rattle.tidy.specs.Tidy.{TidyWords}
 
 -- the flags once these pages have been visited, and whether none of them was flagged when its turn came
 unfoldable pub flagged : List PageNo → List Bool → List Bool
@@ -55,7 +54,6 @@ tree_rules s = all_of (rule1 s ∷ rule2 s ∷ rule3 s ∷ [])
 -- ---- as promises
 -- page p of the store with the words w, at a level, before a walk with 192 flags
 pub record ToWalk (w : List ℕ) (l : ℕ) (p : PageNo) (fs : List Bool) : Type 0 where
-  pub tidy : TidyWords w
   pub level : 1 ≤ l
   pub inside : p.0 < length (store_of w).pages
   pub flags : length fs ≡ 192
