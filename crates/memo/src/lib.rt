@@ -12,13 +12,13 @@ ghost use Rattle.memo.specs.Slots.{Inspected, MemoWords, Whole, room, slot_at, s
 
 use rules::part::Part;
 use rules::{LookUp, Slot, Stamp, Train};
-use view::Memo;
+pub use view::Memo;
 
 pub mod view;
 
 // The slot at a place, used or not, of words that need be no memo's yet; past the end there are unused ones.
 #[tactic(auto, using(crate::proofs::Words::slot_read, crate::proofs::Words::slot_past))]
-fn slot_in(memo: &[u32], i: usize) -> Slot
+pub fn slot_at(memo: &[u32], i: usize) -> Slot
     requires { Whole memo.now }
     ensures { result ≡ slot_at memo.now i }
 {
@@ -116,7 +116,7 @@ pub fn inspect(memo: &mut [u32], mark: Stamp) -> usize
     let slots = memo.len() / 3;
     let mut kept = 0;
     for i in 0..slots {
-        let s = slot_in(memo, i);
+        let s = slot_at(memo, i);
         if s.train == Train(0) {
             return i - kept;
         }

@@ -36,7 +36,7 @@ impl<'a> Memo<'a> {
     pub fn slot_at(&self, i: usize) -> Slot
         ensures { result ≡ slot_at self.now.words.now i }
     {
-        crate::slot_in(self.words, i)
+        crate::slot_at(self.words, i)
     }
 
     // Where the train's slot is, or would be: an unused slot counts as above every train.
