@@ -43,7 +43,8 @@ impl Part for Box {
 
     #[tactic(auto, unfolding(crate::specs::Store::box_words))]
     fn write(self, words: &mut [u32]) {
-        words.copy_from_slice(&[self.x0, self.y0, self.x1, self.y1]);
+        let Box { x0, y0, x1, y1 } = self;
+        words.copy_from_slice(&[x0, y0, x1, y1]);
     }
 }
 
@@ -66,7 +67,8 @@ impl Part for Window {
 
     #[tactic(auto, unfolding(crate::specs::Store::window_words))]
     fn write(self, words: &mut [u32]) {
-        words.copy_from_slice(&[self.x0, self.y0, self.x1, self.y1]);
+        let Window { x0, y0, x1, y1 } = self;
+        words.copy_from_slice(&[x0, y0, x1, y1]);
     }
 }
 
