@@ -4,7 +4,6 @@ use Rattle.std.proofs.Common.{arith, sym, ◌∙◌, ap, Fits as Number}
 use Rattle.std.proofs.lemmas.Bool.{not-false}
 use Rattle.std.specs.Int.{w64}
 use Rattle.std.specs.Result.{result_unwrap_or}
-use Rattle.std.specs.declared.ops.Range.{Range}
 use mathlib.Core.List.{flat_map}
 use Rattle.rules.specs.declared.Window.{Window}
 use Rattle.rules.specs.declared.refusal.Refusal.{Refusal as Reason}
@@ -22,6 +21,7 @@ use Rattle.query.specs.Keys.{row_of_key, Found, Searchable, sound_searchable, se
 use Rattle.query.specs.Rows.{answer-written}
 use Rattle.index.specs.Answers.{answer_for, refused_for, Answered}
 use Rattle.parts.specs.BoardAt.{BoardAt}
+use Rattle.index.specs.declared.Part.{Part as Rows}
 use Rattle.index.specs.Rows.{part_by, board_part, part_of_answer, read_placed, read_inside, Inside, part_inside}
 use Rattle.steps.specs.Refusals.{numbered, handed_on}
 
@@ -103,7 +103,7 @@ unfolding query_call queried_by
 query_listed v w rows z keys work n keys' work' f out o = rw (z, answer-written rows out f o, f.many) (record { said = refl; by_case = refl })
 
 -- ---- a board's rows
-pub part_refused : (v : List ℕ) (i : ℕ) (r : Result (Range ℕ) Reason) (e : Reason) → IsErr r × IsErrAnd r (λ f. f ≡ e) → number_of e ≡ board_test v i → board_part v i ≡ part_of_answer r
+pub part_refused : (v : List ℕ) (i : ℕ) (r : Result Rows Reason) (e : Reason) → IsErr r × IsErrAnd r (λ f. f ≡ e) → number_of e ≡ board_test v i → board_part v i ≡ part_of_answer r
 unfolding board_part part_by
 part_refused v i r e h n = rw (handed_on r e h, sym n) (go (number_of e) (numbered e))
   where
@@ -123,23 +123,23 @@ module _ (v : List ℕ) (i : ℕ) (z : 0 ≡ board_test v i) where
   part_found a n b at here many = rw (sym z, ← at.starts, ← here, many)
 
 -- the part is that of the answer, or empty
-module _ (v : List ℕ) (i : ℕ) (r : Result (Range ℕ) Reason) (e : board_part v i ≡ part_of_answer r) (q : Range ℕ) (or_none : q ≡ result_unwrap_or r (record { start = 0; end = 0 })) where
-  inside : Inside v (board_rows v i) (record { number = answer_number r; from = q.start; to = q.end })
+module _ (v : List ℕ) (i : ℕ) (r : Result Rows Reason) (e : board_part v i ≡ part_of_answer r) (q : Rows) (or_none : q ≡ result_unwrap_or r (record { from = 0; to = 0 })) where
+  inside : Inside v (board_rows v i) (record { number = answer_number r; from = q.from; to = q.to })
   inside = go r q or_none (part_inside v i (part_of_answer r) (sym e))
     where
-      go : (r : Result (Range ℕ) Reason) (q : Range ℕ) → q ≡ result_unwrap_or r (record { start = 0; end = 0 }) → Inside v (board_rows v i) (part_of_answer r)
-          → Inside v (board_rows v i) (record { number = answer_number r; from = q.start; to = q.end })
+      go : (r : Result Rows Reason) (q : Rows) → q ≡ result_unwrap_or r (record { from = 0; to = 0 }) → Inside v (board_rows v i) (part_of_answer r)
+          → Inside v (board_rows v i) (record { number = answer_number r; from = q.from; to = q.to })
       go (Ok x) q h p = rw h p
       go (Err f) q h p = rw h p
 
-  pub part_fits : Number w64 (q.start * 4)
+  pub part_fits : Number w64 (q.from * 4)
   part_fits = record { fits = omega (arith, inside.ordered, inside.low) }
 
-  pub part_ordered : q.start ≤ q.end
+  pub part_ordered : q.from ≤ q.to
   part_ordered = inside.ordered
 
-  pub part_within : q.end ≤ length v
+  pub part_within : q.to ≤ length v
   part_within = inside.within
 
-  pub part_holds : take (q.end - q.start) (drop q.start v) ≡ board_rows v i
+  pub part_holds : take (q.to - q.from) (drop q.from v) ≡ board_rows v i
   part_holds = inside.holds

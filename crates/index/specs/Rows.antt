@@ -5,7 +5,6 @@ use Rattle.std.proofs.Math.Nat.{add-sub_cancel_left}
 use mathlib.Core.List.{List, [], ◌∷◌, ◌++◌, flat_map}
 use Rattle.std.proofs.lemmas.List.{take-append-le, drop-append-le}
 use borrow.Author.Tests.{leb-false, not-false}
-use Rattle.std.specs.declared.ops.Range.{Range}
 use Rattle.rules.specs.declared.refusal.Refusal.{Refusal as Reason}
 use Rattle.rules.specs.Lists.{padded}
 use Rattle.rules.specs.Store.{Board, row_limit, boards_start, board_at, row_words, window_words, board_words, store_of}
@@ -20,6 +19,7 @@ use Rattle.rules.specs.laws.Words.{flat_length, row_words-length}
 use Rattle.rules.specs.laws.Placed.{Placed}
 use Rattle.query.specs.Keys.{sound_searchable, searchable_placed}
 use Rattle.parts.specs.BoardAt.{BoardAt, board_placed}
+use Rattle.index.specs.declared.Part.{Part as Rows}
 
 -- what is answered: the test's number, and the part
 pub record Part : Type 0 where
@@ -28,12 +28,12 @@ pub record Part : Type 0 where
   pub to : ℕ
 
 -- the part of each case: an empty one where it is refused
-abbrev pub part_from : Result (Range ℕ) Reason → ℕ
-part_from (Ok range) = range.start
+abbrev pub part_from : Result Rows Reason → ℕ
+part_from (Ok rows) = rows.from
 part_from (Err refusal) = 0
 
-abbrev pub part_to : Result (Range ℕ) Reason → ℕ
-part_to (Ok range) = range.end
+abbrev pub part_to : Result Rows Reason → ℕ
+part_to (Ok rows) = rows.to
 part_to (Err refusal) = 0
 
 -- the rows stand behind the board's six first words; where the test refuses, the part is empty
@@ -47,16 +47,16 @@ part_by (suc n) w i = record { number = suc n; from = 0; to = 0 }
 unfoldable pub board_part : List ℕ → ℕ → Part
 board_part w i = part_by (board_test w i) w i
 
-abbrev pub part_of_answer : Result (Range ℕ) Reason → Part
+abbrev pub part_of_answer : Result Rows Reason → Part
 part_of_answer r = record { number = answer_number r; from = part_from r; to = part_to r }
 
 -- two outcomes that its promise allows are equal
-pub part_settled : (w : List ℕ) (i : ℕ) (r r' : Result (Range ℕ) Reason) → board_part w i ≡ part_of_answer r → board_part w i ≡ part_of_answer r' → r ≡ r'
+pub part_settled : (w : List ℕ) (i : ℕ) (r r' : Result Rows Reason) → board_part w i ≡ part_of_answer r → board_part w i ≡ part_of_answer r' → r ≡ r'
 part_settled w i r r' e f =
     let g : part_of_answer r ≡ part_of_answer r' = sym e ∙ f in
     settled r r' (ap (λ p. p.number) g) (ap (λ p. p.from) g) (ap (λ p. p.to) g)
   where
-    settled : (r r' : Result (Range ℕ) Reason) → answer_number r ≡ answer_number r' → part_from r ≡ part_from r' → part_to r ≡ part_to r' → r ≡ r'
+    settled : (r r' : Result Rows Reason) → answer_number r ≡ answer_number r' → part_from r ≡ part_from r' → part_to r ≡ part_to r' → r ≡ r'
     settled (Ok x) (Ok y) n a b = grind (arith, a, b)
     settled (Ok x) (Err f) n a b = absurd (numbered f (sym n))
     settled (Err e) (Ok y) n a b = absurd (numbered e n)

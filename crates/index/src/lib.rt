@@ -10,10 +10,9 @@ ghost use Rattle.index.specs.Running.{RanAll};
 ghost use Rattle.index.specs.Fresh as fresh;
 ghost use Rattle.index.specs.Rows as spec_rows;
 
-use rules::part::Part;
+use rules::part::Part as _;
 use rules::refusal::Refusal;
 use rules::{Step, Window};
-use std::ops::Range;
 
 // ---- start
 
@@ -133,19 +132,28 @@ pub fn board_test(store: &[u32], i: u32) -> Result<(), Refusal>
     Ok(())
 }
 
-// Where board i's rows stand in the store: from the first word of the first row to behind the last one's.
-pub fn board_part(store: &[u32], i: u32) -> Result<Range<usize>, Refusal>
+// Where a board's rows stand in the store: from the first word of the first row to behind the last one's. A Range couldn't be copied.
+#[derive(Clone, Copy, Debug, PartialEq, Eq)]
+pub struct Part {
+    pub from: usize,
+    pub to: usize,
+}
+
+// The part of the store that holds board i's rows.
+pub fn board_part(store: &[u32], i: u32) -> Result<Part, Refusal>
     ensures { spec_rows.board_part store.now i ≡ spec_rows.part_of_answer result }
 {
     board_test(store, i)?;
     let i = i as usize;
     let from = parts::board_start(store, i) + 6;
-    Ok(from..from + 5 * parts::board_at(store, i).row_count())
+    let to = from + 5 * parts::board_at(store, i).row_count();
+    Ok(Part { from, to })
 }
 
 // Board i's rows as they stand in the store, or an empty part where the test refuses.
 pub fn board_rows<'a>(store: &'a [u32], i: u32) -> &'a [u32]
     ensures { result.now ≡ calls.board_rows store.now i }
 {
-    &store[board_part(store, i).unwrap_or(0..0)]
+    let Part { from, to } = board_part(store, i).unwrap_or(Part { from: 0, to: 0 });
+    &store[from..to]
 }

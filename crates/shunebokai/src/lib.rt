@@ -70,8 +70,8 @@ pub extern "C" fn shunebokai_board_rows(
 {
     let rows = index::board_part(store, i);
     let number = number(&rows);
-    let part = rows.unwrap_or(0..0);
-    *from = part.start;
-    *to = part.end;
+    let part = rows.unwrap_or(index::Part { from: 0, to: 0 });
+    *from = part.from;
+    *to = part.to;
     number
 }

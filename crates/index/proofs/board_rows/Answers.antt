@@ -2,8 +2,8 @@ use Rattle.std.proofs.Common.{rules}
 use Rattle.index.proofs.Calls.{part_fits, part_ordered, part_within, part_holds}
 use Rattle.index.proofs.board_rows.Goals as goal
 
-pub offset_bounds-store-unwrap_or : goal.offset_bounds-store-unwrap_or
-offset_bounds-store-unwrap_or c = search (rules, part_fits)
+pub offset_bounds-store-from : goal.offset_bounds-store-from
+offset_bounds-store-from c = search (rules, part_fits)
 
 pub slice_bounds-result-count : goal.slice_bounds-result-count
 slice_bounds-result-count c = search (rules, part_ordered)
