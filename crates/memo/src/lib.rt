@@ -96,7 +96,8 @@ pub fn lower(memo: &mut [u32], t: Train)
     let LookUp::Found { place, latest, old } = Memo { words: memo }.look_up(t) else {
         return;
     };
-    if old <= 1 {
+    let is_last = old <= 1;
+    if is_last {
         remove(memo, place);
         return;
     }

@@ -11,4 +11,4 @@ returns c =
     let m = c.args.self.now.words.now in
     let here = place_found m c.args.t (its_words c.args.self.now) c.as_chunks.result.0.now c.as_chunks.ensures.front c.partition_point.result c.partition_point.ensures.bound
     (IsPartitionPoint-from_clause (before c.args.t) _ c.partition_point.result c.partition_point.ensures.partitioned (parted m c.args.t (its_words c.args.self.now) c.as_chunks.result.0.now c.as_chunks.ensures.front) (λ a r f k. search (rules, tests))) in
-    record { place = here; within = omega (arith, here, place-most c.args.t (slots_in m)) }
+    record { place = omega (arith, here); within = omega (arith, here, place-most c.args.t (slots_in m)) }
